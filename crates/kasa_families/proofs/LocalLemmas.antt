@@ -1,0 +1,136 @@
+-- The local state that a site of a mixture has, and that just this one is met there.
+use Rattle.std.proofs.Common.{◌≡◌, ℕ, zero, suc, ◌<◌, List, [], ◌∷◌, refl, sym, ◌∙◌, map, arith}
+use Rattle.std.specs.Prelude.{Option, Some, None, IsSome, slice_get}
+use Rattle.kasa_graph.specs.declared.mixture.Agent.{Agent}
+use Rattle.kasa_graph.specs.declared.pattern.Node.{Node}
+use Rattle.kasa_graph.specs.Signature.{TypeEntry}
+use Rattle.kasa_graph.specs.Lists.{AllDifferent}
+use Rattle.kasa_graph.specs.Signature.{state_counts, HasSite}
+use Rattle.kasa_graph.specs.Pattern.{HasNodeSite}
+use Rattle.kasa_graph.specs.Mixture.{type_in, state_in, partner_in, IsMixtureOver}
+use Rattle.kasa_graph.specs.Embedding.{IsEmbedding, MeetsState, MeetsLink}
+use Rattle.kasa_graph.proofs.ListLemmas.{AllDifferent-tail}
+use Rattle.kasa_graph.proofs.MixtureLemmas.{site_of_type, type_of_partner}
+use Rattle.kasa_graph.proofs.TestLemmas.{HasNodeSite-with_state}
+use Rattle.kasa_graph.proofs.EmbeddingLemmas.{IsEmbedding-with_state, IsEmbedding-with_link}
+use Rattle.kasa_families.specs.declared.row.LocalLink.{LocalLink}
+use Rattle.kasa_families.specs.declared.row.LocalLink.TheVariants.{Free, Partner}
+use Rattle.kasa_families.specs.declared.row.Local.{Local}
+use Rattle.kasa_families.specs.Row.{IsLocalState, IsLocalLink, IsLocal, AreLocals}
+use Rattle.kasa_families.specs.Pattern.{local_state_test, local_link_test, with_local, with_locals}
+use Rattle.kasa_families.proofs.RowTests.{HasNodeSite-with_local, state_test-with_local_same, link_test-with_local_same, state_test-with_locals_at, link_test-with_locals_at}
+
+abbrev link_to : Option ℕ → ℕ → LocalLink
+link_to None t = Free
+link_to (Some b) t = Partner b t
+
+abbrev link_seen : List (Option Agent) → Option (ℕ × ℕ) → LocalLink
+link_seen m None = Free
+link_seen m (Some p) = link_to (type_in m p.0) p.1
+
+-- the local state of a site
+abbrev pub local_in : List (Option Agent) → ℕ → ℕ → Local
+local_in m c s = record { state = state_in m c s; link = link_seen m (partner_in m c s) }
+
+-- a local state is met at a site
+pub record MeetsLocal (m : List (Option Agent)) (cells : List ℕ) (c s : ℕ) (l : Local) : Type 0 where
+  pub state : MeetsState (state_in m c s) (local_state_test l.state)
+  pub link : MeetsLink m cells (partner_in m c s) (local_link_test l.link)
+
+-- ---- states
+
+state_is_local : (k : ℕ) (state : Option ℕ) → ((u : ℕ) → state ≡ Some u → u < k) → (0 < k → IsSome state) → IsLocalState (Some k) state
+state_is_local zero None within given = refl
+state_is_local zero (Some u) within given = let h = within u refl in absurd (omega arith)
+state_is_local (suc k) None within given = absurd (let h = given (omega arith) in cc)
+state_is_local (suc k) (Some u) within given = (u, refl, within u refl)
+
+state_is_met : (state : Option ℕ) → MeetsState state (local_state_test state)
+state_is_met None = tt
+state_is_met (Some u) = refl
+
+same_state : (k state l : Option ℕ) → IsLocalState k state → IsLocalState k l → MeetsState state (local_state_test l) → l ≡ state
+same_state None state l is has met = absurd is
+same_state (Some zero) state l is has met = has ∙ sym is
+same_state (Some (suc k)) state None is has met = let e = has.1 in absurd cc
+same_state (Some (suc k)) state (Some u) is has met = sym met
+
+-- ---- links
+
+same_link : (m : List (Option Agent)) (cells : List ℕ) (at : Option (ℕ × ℕ)) (l : LocalLink) → MeetsLink m cells at (local_link_test l) → l ≡ link_seen m at
+same_link m cells None Free met = refl
+same_link m cells None (Partner b y) met = let e = met.1 in absurd cc
+same_link m cells (Some p) Free met = absurd cc
+same_link m cells (Some p) (Partner b y) met =
+    let same : p ≡ (met.0, y) = let e = met.1 in cc in
+    rw (same, met.2) refl
+
+module _ (sig : List TypeEntry) (m : List (Option Agent)) (over : IsMixtureOver sig m) where
+  state_in-local : (c a s : ℕ) → type_in m c ≡ Some a → HasSite sig a s → IsLocalState (slice_get (state_counts sig a) s) (state_in m c s)
+  unfolding state_in
+  state_in-local c a s typed has =
+      let x = site_of_type sig m over c a s typed has in
+      let ok = over.states c s x.0 x.1 in
+      rw (x.1, x.2) (state_is_local x.0.states x.0.state ok.within ok.given)
+
+  link_in : (cells : List ℕ) (c s : ℕ) (at : Option (ℕ × ℕ)) → partner_in m c s ≡ at → IsLocalLink sig (link_seen m at) × MeetsLink m cells at (local_link_test (link_seen m at))
+  link_in cells c s None e = (tt, refl)
+  link_in cells c s (Some p) e = let b = type_of_partner sig m over c s p.0 p.1 e in rw b.1 (b.2, (p.0, refl, b.1))
+
+  pub IsLocal-local_in : (c a s : ℕ) → type_in m c ≡ Some a → HasSite sig a s → IsLocal sig a s (local_in m c s)
+  IsLocal-local_in c a s typed has = record { state = state_in-local c a s typed has; link = (link_in [] c s (partner_in m c s) refl).0 }
+
+  pub MeetsLocal-local_in : (cells : List ℕ) (c s : ℕ) → MeetsLocal m cells c s (local_in m c s)
+  MeetsLocal-local_in cells c s = record { state = state_is_met (state_in m c s); link = (link_in cells c s (partner_in m c s) refl).1 }
+
+  -- no other valid local state is met
+  pub local_in-only : (cells : List ℕ) (c a s : ℕ) (l : Local) → type_in m c ≡ Some a → HasSite sig a s → IsLocal sig a s l → MeetsLocal m cells c s l → l ≡ local_in m c s
+  local_in-only cells c a s l typed has ok met =
+      let state = same_state (slice_get (state_counts sig a) s) (state_in m c s) l.state (state_in-local c a s typed has) ok.state met.state in
+      let link = same_link m cells (partner_in m c s) l.link met.link in
+      λ i. record { state = state i; link = link i }
+
+-- ---- embeddings
+
+pub IsEmbedding-with_local : (g : List Node) (m : List (Option Agent)) (cells : List ℕ) (n s c : ℕ) (l : Local) → HasNodeSite g n s → slice_get cells n ≡ Some c → MeetsLocal m cells c s l → IsEmbedding g m cells → IsEmbedding (with_local g n s l) m cells
+IsEmbedding-with_local g m cells n s c l has here met emb =
+    IsEmbedding-with_link _ m cells
+    (IsEmbedding-with_state g m cells emb n s (local_state_test l.state) has (λ d there. let same : c ≡ d = cc in rw same at met.state))
+    n s (local_link_test l.link) (HasNodeSite-with_state g n s n s (local_state_test l.state) has) (λ d there. let same : c ≡ d = cc in rw same at met.link)
+
+-- the local states of a pattern that is embedded are met
+module _ (g : List Node) (m : List (Option Agent)) (cells : List ℕ) (n c : ℕ) (here : slice_get cells n ≡ Some c) where
+  pub MeetsLocal-with_local : (s : ℕ) (l : Local) → HasNodeSite g n s → IsEmbedding (with_local g n s l) m cells → MeetsLocal m cells c s l
+  MeetsLocal-with_local s l has emb = record {
+    state = rw (state_test-with_local_same g n s l has) at (emb.states n c s here);
+    link = rw (link_test-with_local_same g n s l has) at (emb.links n c s here);
+  }
+
+  pub MeetsLocal-with_locals : (sites : List ℕ) (locals : List Local) → AllDifferent sites → IsEmbedding (with_locals g n sites locals) m cells → (i s : ℕ) (l : Local) → slice_get sites i ≡ Some s → slice_get locals i ≡ Some l → HasNodeSite g n s → MeetsLocal m cells c s l
+  MeetsLocal-with_locals sites locals different emb i s l is_s is_l has = record {
+    state = rw (state_test-with_locals_at g n sites locals i s l different is_s is_l has) at (emb.states n c s here);
+    link = rw (link_test-with_locals_at g n sites locals i s l different is_s is_l has) at (emb.links n c s here);
+  }
+
+module _ (sig : List TypeEntry) (m : List (Option Agent)) (over : IsMixtureOver sig m) (cells : List ℕ) (n c a : ℕ) (here : slice_get cells n ≡ Some c) (typed : type_in m c ≡ Some a) where
+  -- the local states of the sites are valid, and met
+  pub AreLocals-local_in : (sites : List ℕ) → ((i s : ℕ) → slice_get sites i ≡ Some s → HasSite sig a s) → AreLocals sig a sites (map (local_in m c) sites)
+  AreLocals-local_in [] has = tt
+  AreLocals-local_in (s ∷ sites) has = (IsLocal-local_in sig m over c a s typed (has zero s refl), AreLocals-local_in sites (λ i. has (suc i)))
+
+  pub IsEmbedding-with_locals : (g : List Node) (sites : List ℕ) → ((i s : ℕ) → slice_get sites i ≡ Some s → HasNodeSite g n s) → IsEmbedding g m cells → IsEmbedding (with_locals g n sites (map (local_in m c) sites)) m cells
+  IsEmbedding-with_locals g [] has emb = emb
+  IsEmbedding-with_locals g (s ∷ sites) has emb =
+      IsEmbedding-with_locals (with_local g n s (local_in m c s)) sites (λ i t e. HasNodeSite-with_local g n s (local_in m c s) n t (has (suc i) t e))
+      (IsEmbedding-with_local g m cells n s c (local_in m c s) (has zero s refl) here (MeetsLocal-local_in sig m over cells c s) emb)
+
+  -- and no others are
+  pub locals_in-only : (g : List Node) (sites : List ℕ) (locals : List Local) → AllDifferent sites → ((i s : ℕ) → slice_get sites i ≡ Some s → HasNodeSite g n s) → ((i s : ℕ) → slice_get sites i ≡ Some s → HasSite sig a s) → AreLocals sig a sites locals → IsEmbedding (with_locals g n sites locals) m cells → locals ≡ map (local_in m c) sites
+  locals_in-only g [] [] different has sited ok emb = refl
+  locals_in-only g [] (l ∷ locals) different has sited ok emb = absurd ok
+  locals_in-only g (s ∷ sites) [] different has sited ok emb = absurd ok
+  locals_in-only g (s ∷ sites) (l ∷ locals) different has sited ok emb =
+      let met = MeetsLocal-with_locals g m cells n c here (s ∷ sites) (l ∷ locals) different emb zero s l refl refl (has zero s refl) in
+      let first = local_in-only sig m over cells c a s l typed (sited zero s refl) ok.0 met in
+      let rest = locals_in-only (with_local g n s l) sites locals (AllDifferent-tail s sites different) (λ i t e. HasNodeSite-with_local g n s l n t (has (suc i) t e)) (λ i. sited (suc i)) ok.1 emb in
+      rw (first, rest)

@@ -1,0 +1,17 @@
+-- Embeddings of roots that extend to one row alone.
+use Rattle.std.specs.Prelude.{◌≡◌, ℕ, List, ◌++◌, Option}
+use Rattle.kasa_graph.specs.declared.mixture.Agent.{Agent}
+use Rattle.kasa_graph.specs.Signature.{TypeEntry}
+use Rattle.kasa_graph.specs.Embedding.{IsEmbedding}
+use Rattle.kasa_families.specs.declared.family.Family.{Family}
+use Rattle.kasa_families.specs.declared.row.Row.{Row}
+use Rattle.kasa_families.specs.Row.{IsRow}
+use Rattle.kasa_families.specs.Pattern.{row_pattern}
+
+-- the cells extend to an embedding of just one valid row's pattern, in just one way
+pub record ExtendsOnce (sig : List TypeEntry) (family : Family) (m : List (Option Agent)) (cells : List ℕ) : Type 0 where
+  pub row : Row
+  pub valid : IsRow sig family row
+  pub more : List ℕ
+  pub embedded : IsEmbedding (row_pattern sig family row) m (cells ++ more)
+  pub only : (other : Row) (others : List ℕ) → IsRow sig family other → IsEmbedding (row_pattern sig family other) m (cells ++ others) → (other ≡ row) × (others ≡ more)

@@ -1,0 +1,11 @@
+//! Families of patterns: a root, and the rows that refine it.
+#![tactic(auto)]
+
+mod family;
+pub mod laws;
+mod row;
+mod rows;
+
+pub use family::{Family, Sites};
+pub use row::{Local, LocalLink, Locals, Row, Spot};
+pub use rows::Rows;

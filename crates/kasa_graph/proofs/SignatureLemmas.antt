@@ -1,0 +1,103 @@
+-- What the maps of a signature say of its types, sites and states.
+use Rattle.std.proofs.Common.{◌≡◌, ◌≤◌, ◌<◌, ◌+◌, ◌++◌, take, add-one, ℕ, zero, suc, List, [], ◌∷◌, length, map, refl, sym, ap, ◌∙◌, arith, Option, Some, None, slice_get, option_map, Vec}
+use Rattle.std.specs.Option.{option_map_or}
+use Rattle.std.specs.Global.{Global}
+use Rattle.std.proofs.lemmas.Option.{slice_get-map}
+use Rattle.std.proofs.lemmas.List.{take_all}
+use Rattle.kasa_graph.specs.Signature.{SiteEntry, TypeEntry, sites_of, state_names, state_counts, IsSignature}
+use Rattle.kasa_graph.specs.SignatureView.{StateSet, SiteMap, name_bytes, site_entry, type_entry}
+use Rattle.kasa_graph.proofs.ListLemmas.{AllDifferent-[]}
+
+pub length-map : {X Y : Type 0} (f : X → Y) (xs : List X) → length (map f xs) ≡ length xs
+length-map f [] = refl
+length-map f (x ∷ xs) = rw (length-map f xs)
+
+-- no type
+pub sites_of-[] : (a : ℕ) → sites_of [] a ≡ []
+unfolding sites_of
+sites_of-[] zero = refl
+sites_of-[] (suc a) = refl
+
+pub state_names-[] : (a x : ℕ) → state_names [] a x ≡ []
+unfolding state_names
+state_names-[] a x = rw (sites_of-[] a) (none x)
+  where
+    none : (k : ℕ) → option_map_or (λ (s : SiteEntry). s.states) (slice_get [] k) [] ≡ []
+    none zero = refl
+    none (suc k) = refl
+
+pub IsSignature-[] : IsSignature []
+IsSignature-[] = record {
+  types_differ = AllDifferent-[];
+  sites_differ = λ a. rw (sites_of-[] a) AllDifferent-[];
+  states_differ = λ a x. rw (state_names-[] a x) AllDifferent-[];
+  few_types = omega arith;
+  few_sites = λ a. rw (sites_of-[] a) (omega arith);
+  few_states = λ a x. rw (state_names-[] a x) (omega arith);
+  type_names = λ a t h. absurd (none_at a h);
+  site_names = λ a x s h. absurd (none_at x (rw (sites_of-[] a) at h));
+  are_state_names = λ a x u name h. absurd (none_at u (rw (state_names-[] a x) at h));
+}
+  where
+    none_at : {X : Type 0} {x : X} (k : ℕ) → slice_get [] k ≡ Some x → ⊥
+    none_at zero h = cc
+    none_at (suc k) h = cc
+
+-- the sites of a type, and the states of a site, found in the maps
+pub sites_at : (es : List (Vec ℕ Global × SiteMap)) (a : ℕ) → sites_of (map type_entry es) a ≡ option_map_or (λ e. map site_entry e.1.entries) (slice_get es a) []
+unfolding sites_of
+sites_at es a = rw (slice_get-map type_entry es a) (by (slice_get es a))
+  where
+    by : (o : Option (Vec ℕ Global × SiteMap)) → option_map_or (λ t. t.sites) (option_map type_entry o) [] ≡ option_map_or (λ e. map site_entry e.1.entries) o []
+    by None = refl
+    by (Some e) = refl
+
+pub states_at : (es : List (Vec ℕ Global × StateSet)) (x : ℕ) → option_map_or (λ s. s.states) (slice_get (map site_entry es) x) [] ≡ option_map_or (λ e. map name_bytes e.1.keys) (slice_get es x) []
+states_at es x = rw (slice_get-map site_entry es x) (by (slice_get es x))
+  where
+    by : (o : Option (Vec ℕ Global × StateSet)) → option_map_or (λ s. s.states) (option_map site_entry o) [] ≡ option_map_or (λ e. map name_bytes e.1.keys) o []
+    by None = refl
+    by (Some e) = refl
+
+pub no_type : (es : List (Vec ℕ Global × SiteMap)) (a : ℕ) → None ≡ slice_get es a → sites_of (map type_entry es) a ≡ []
+no_type es a h = rw (sites_at es a, ← h)
+
+pub some_type : (es : List (Vec ℕ Global × SiteMap)) (a : ℕ) (e : Vec ℕ Global × SiteMap) → Some e ≡ slice_get es a → sites_of (map type_entry es) a ≡ map site_entry e.1.entries
+some_type es a e h = rw (sites_at es a, ← h)
+
+pub no_site : (es : List (Vec ℕ Global × SiteMap)) (a x : ℕ) (e : Vec ℕ Global × SiteMap) → Some e ≡ slice_get es a → None ≡ slice_get e.1.entries x → state_names (map type_entry es) a x ≡ []
+unfolding state_names
+no_site es a x e h none = rw (some_type es a e h, states_at e.1.entries x, ← none)
+
+pub some_site : (es : List (Vec ℕ Global × SiteMap)) (a x : ℕ) (e : Vec ℕ Global × SiteMap) (f : Vec ℕ Global × StateSet) → Some e ≡ slice_get es a → Some f ≡ slice_get e.1.entries x →
+    state_names (map type_entry es) a x ≡ map name_bytes f.1.keys
+unfolding state_names
+some_site es a x e f h some = rw (some_type es a e h, states_at e.1.entries x, ← some)
+
+pub no_type_states : (es : List (Vec ℕ Global × SiteMap)) (a x : ℕ) → None ≡ slice_get es a → state_names (map type_entry es) a x ≡ []
+unfolding state_names
+no_type_states es a x h = rw (no_type es a h) (none x)
+  where
+    none : (k : ℕ) → option_map_or (λ (s : SiteEntry). s.states) (slice_get [] k) [] ≡ []
+    none zero = refl
+    none (suc k) = refl
+
+-- the counts of states up to one more site
+pub counts_more : (sig : List TypeEntry) (a x k : ℕ) → x < length (sites_of sig a) → k ≡ length (state_names sig a x) →
+    take (x + 1) (state_counts sig a) ≡ take x (state_counts sig a) ++ k ∷ []
+unfolding state_counts state_names
+counts_more sig a x k h is = rw (is, add-one) (more (sites_of sig a) x h)
+  where
+    more : (xs : List SiteEntry) (i : ℕ) → i < length xs →
+        take (suc i) (map (λ s. length s.states) xs) ≡ take i (map (λ s. length s.states) xs) ++ length (option_map_or (λ (s : SiteEntry). s.states) (slice_get xs i) []) ∷ []
+    more [] i h = absurd (omega arith)
+    more (x ∷ xs) zero h = refl
+    more (x ∷ xs) (suc i) h = ap (λ ys. length x.states ∷ ys) (more xs i (omega arith))
+
+pub counts_all : (sig : List TypeEntry) (a n : ℕ) → length (sites_of sig a) ≤ n → take n (state_counts sig a) ≡ state_counts sig a
+unfolding state_counts
+counts_all sig a n h = take_all n (map (λ s. length s.states) (sites_of sig a)) (rw (length-map (λ (s : SiteEntry). length s.states) (sites_of sig a)) h)
+
+pub map-push : {X Y : Type 0} (f : X → Y) (xs : List X) (x : X) → map f (xs ++ x ∷ []) ≡ map f xs ++ f x ∷ []
+map-push f [] x = refl
+map-push f (y ∷ xs) x = ap (λ ys. f y ∷ ys) (map-push f xs x)

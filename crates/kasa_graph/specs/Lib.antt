@@ -1,0 +1,6 @@
+pub mod Lists
+pub mod Signature
+pub mod SignatureView
+pub mod Pattern
+pub mod Mixture
+pub mod Embedding

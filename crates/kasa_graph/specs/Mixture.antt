@@ -1,0 +1,57 @@
+-- Mixtures: lists of cells, each empty or with an agent whose sites have states and partners.
+use Rattle.std.specs.Prelude.{◌≡◌, ◌≢◌, ℕ, ◌+◌, ◌<◌, List, ◌++◌, length, map, Option, Some, IsSome, slice_get, option_map, option_and_then}
+use Rattle.kasa_graph.specs.declared.mixture.Agent.{Agent}
+use Rattle.kasa_graph.specs.declared.mixture.AgentSite.{AgentSite}
+use Rattle.kasa_graph.specs.Signature.{TypeEntry}
+use Rattle.kasa_graph.specs.Signature.{state_counts}
+
+-- the agent of a living cell
+unfoldable pub agent_in : List (Option Agent) → ℕ → Option Agent
+agent_in m c = option_and_then (λ cell. cell) (slice_get m c)
+
+-- the type of a living cell
+unfoldable pub type_in : List (Option Agent) → ℕ → Option ℕ
+type_in m c = option_map (λ a. a.agent) (agent_in m c)
+
+-- a site of a living cell
+unfoldable pub site_in : List (Option Agent) → ℕ → ℕ → Option AgentSite
+site_in m c s = option_and_then (λ a. slice_get a.sites s) (agent_in m c)
+
+-- the state of a site, none where the site has no states
+unfoldable pub state_in : List (Option Agent) → ℕ → ℕ → Option ℕ
+state_in m c s = option_and_then (λ x. x.state) (site_in m c s)
+
+-- the cell and the site that a site is bound to
+unfoldable pub partner_in : List (Option Agent) → ℕ → ℕ → Option (ℕ × ℕ)
+partner_in m c s = option_and_then (λ x. x.partner) (site_in m c s)
+
+-- partners are mutual, so they stand in living cells, and no site is its own partner
+pub record IsMixture (m : List (Option Agent)) : Type 0 where
+  pub both_ways : (c s d t : ℕ) → partner_in m c s ≡ Some (d, t) → partner_in m d t ≡ Some (c, s)
+  pub apart : (c s : ℕ) → partner_in m c s ≢ Some (c, s)
+
+-- a site has a state where it has states, which is one of them
+pub record IsAgentSite (x : AgentSite) : Type 0 where
+  pub within : (u : ℕ) → x.state ≡ Some u → u < x.states
+  pub given : 0 < x.states → IsSome x.state
+
+-- the agents of a mixture have just the sites and states of their types
+pub record IsMixtureOver (sig : List TypeEntry) (m : List (Option Agent)) : Type 0 where
+  pub linked : IsMixture m
+  pub types : (c : ℕ) (a : Agent) → agent_in m c ≡ Some a → a.agent < length sig
+  pub sites : (c : ℕ) (a : Agent) → agent_in m c ≡ Some a → map (λ x. x.states) a.sites ≡ state_counts sig a.agent
+  pub states : (c s : ℕ) (x : AgentSite) → site_in m c s ≡ Some x → IsAgentSite x
+
+-- a site, a partner, an agent, a cell whose partners' cells count on from n
+abbrev pub shift_partner : ℕ → ℕ × ℕ → ℕ × ℕ
+shift_partner n p = (n + p.0, p.1)
+
+abbrev pub shift_site : ℕ → AgentSite → AgentSite
+shift_site n x = record x { partner = option_map (shift_partner n) x.partner }
+
+abbrev pub shift_agent : ℕ → Agent → Agent
+shift_agent n a = record a { sites = map (shift_site n) a.sites }
+
+-- two mixtures side by side: the cells of the second one count on
+unfoldable pub beside : List (Option Agent) → List (Option Agent) → List (Option Agent)
+beside m k = m ++ map (option_map (shift_agent (length m))) k

@@ -1,0 +1,10 @@
+//! Site graphs: signatures, patterns, mixtures and embeddings.
+#![tactic(auto)]
+
+mod mixture;
+mod pattern;
+mod signature;
+
+pub use mixture::{Agent, AgentSite, AgentSites, Mixture};
+pub use pattern::{LinkTest, Node, NodeSites, Pattern, SiteTests, StateTest};
+pub use signature::Signature;

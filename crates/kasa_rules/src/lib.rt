@@ -1,0 +1,11 @@
+//! Rules, models, and what a model reaches.
+#![tactic(auto)]
+
+pub mod laws;
+mod model;
+mod rule;
+
+pub use model::{Inits, Model, Rules};
+pub use rule::{
+    End, Fate, MadeAgent, MadeSite, MadeSites, NodeAction, Rule, SiteAction, SiteActions, Written,
+};

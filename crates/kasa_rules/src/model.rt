@@ -1,0 +1,54 @@
+// Models: a signature, the complexes that may be there at first, and the rules.
+use crate::Rule;
+use kasa_graph::{Mixture, Signature};
+use std::marker;
+
+/// The complexes of a model's inits.
+#[derive(Drop)]
+pub struct Inits {
+    items: Vec<Mixture>,
+}
+
+impl marker::Model for Inits {
+    ghost use Rattle.std.specs.Prelude.{List, Option};
+    ghost use Rattle.kasa_graph.specs.declared.mixture.Agent.{Agent};
+
+    ghost Value = { List (List (Option Agent)) };
+
+    ghost view = { λ a. a.items.items };
+}
+
+/// The rules of a model.
+#[derive(Drop)]
+pub struct Rules {
+    items: Vec<Rule>,
+}
+
+impl marker::Model for Rules {
+    ghost use Rattle.std.specs.Prelude.{List};
+    ghost use Rattle.kasa_rules.specs.Rule.{RuleParts};
+
+    ghost Value = { List RuleParts };
+
+    ghost view = { λ a. a.items.items };
+}
+
+/// A signature, the complexes that may be there at first, and the rules.
+#[derive(Drop)]
+pub struct Model {
+    pub sig: Signature,
+    pub inits: Inits,
+    pub rules: Rules,
+}
+
+impl marker::Model for Model {
+    ghost use Rattle.kasa_rules.specs.ModelParts.{ModelParts};
+
+    ghost Value = { ModelParts };
+
+    ghost use Rattle.kasa_rules.specs.Reached.{IsModel};
+
+    ghost view = { λ m. record { sig = m.sig; inits = m.inits; rules = m.rules } };
+
+    ghost invariant = { λ m. IsModel (record { sig = m.sig; inits = m.inits; rules = m.rules }) };
+}
