@@ -6,8 +6,10 @@ pub mod laws;
 mod patterns;
 mod row;
 mod rows;
+mod valid;
 
 pub use family::{Family, Sites};
 pub use patterns::{pattern, root};
 pub use row::{Local, LocalLink, Locals, Row, Spot};
 pub use rows::Rows;
+pub use valid::{is_family, is_row};

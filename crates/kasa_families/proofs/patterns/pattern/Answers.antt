@@ -1,15 +1,16 @@
-use Rattle.std.proofs.Common.{◌≡◌, List, [], ◌∷◌, refl, ap, ◌∙◌}
+use Rattle.std.proofs.Common.{ℕ, ◌≡◌, List, [], ◌∷◌, refl, ap, ◌∙◌}
 use Rattle.kasa_graph.specs.Signature.{TypeEntry}
 use Rattle.kasa_graph.specs.declared.pattern.Node.{Node}
 use Rattle.kasa_graph.specs.Pattern.{IsPatternOver}
 use Rattle.kasa_graph.proofs.TestLemmas.{HasNodeSite-blank}
 use Rattle.kasa_families.specs.declared.family.Family.{Family}
 use Rattle.kasa_families.specs.declared.family.Family.TheVariants.{View, Across, Parallel}
+use Rattle.kasa_families.specs.declared.row.Local.{Local}
 use Rattle.kasa_families.specs.declared.row.Row.{Row}
 use Rattle.kasa_families.specs.declared.row.Row.TheVariants.{Locals, Same, Different}
-use Rattle.kasa_families.specs.Family.{IsFamily}
+use Rattle.kasa_families.specs.Family.{IsFamily, root}
 use Rattle.kasa_families.specs.Row.{IsRow}
-use Rattle.kasa_families.specs.Pattern.{row_pattern}
+use Rattle.kasa_families.specs.Pattern.{with_local, row_pattern}
 use Rattle.kasa_families.proofs.RowPattern.{HasNodeSite-across_first}
 use Rattle.kasa_families.proofs.OverLemmas.{CanJoin-same_first, CanJoin-same_second, CanJoin-different_first, CanJoin-different_second, AreKnown-pair, AreKnown-parallel, IsNoBond-blank, IsNoBond-across_first, IsNoBond-across_second, HasNodeSite-across_root_second, two_locals, IsPatternOver-row_pattern}
 use Rattle.kasa_families.proofs.patterns.pattern.Goals as goal
@@ -63,6 +64,11 @@ returns-in_ok-g-in-Parallel-Different-clause-over c =
 
 -- ---- across a bond
 
+across_refined : (sig : List TypeEntry) (family : Family) (a x p b y q : ℕ) (l k : Local) (g h : List Node) → family ≡ Across a x p b y q → g ≡ root sig family → h ≡ with_local (with_local g 0 p l) 1 q k → h ≡ row_pattern sig (Across a x p b y q) (Locals (l ∷ k ∷ []))
+across_refined sig family a x p b y q l k g h is e f =
+    let root_is : g ≡ root sig (Across a x p b y q) = e ∙ ap (root sig) is in
+    f ∙ ap (λ (g : List Node). with_local (with_local g 0 p l) 1 q k) root_is
+
 pub put_ends-requires-clause-first : goal.put_ends-requires-clause-first
 put_ends-requires-clause-first c = rw (c.in_ok-g-in-Across-Locals.ensures.pattern, c.in-Across-Locals.is-0) (HasNodeSite-across_first _ _ _ _ _ _ _ (rw c.in-Across-Locals.is-0 at c.requires.family))
 
@@ -82,4 +88,5 @@ returns-in_ok-g-in-Across-Locals-clause-over c =
     let two = two_locals c.args.sig.now c.in-Across-Locals.a-0 c.in-Across-Locals.x-0 c.in-Across-Locals.p c.in-Across-Locals.b-0 c.in-Across-Locals.y-0 c.in-Across-Locals.q c.in-Across-Locals.locals at_shape in
     over_row c.args.sig.now c.args.family.now (Across c.in-Across-Locals.a-0 c.in-Across-Locals.x-0 c.in-Across-Locals.p c.in-Across-Locals.b-0 c.in-Across-Locals.y-0 c.in-Across-Locals.q) c.args.row.now (Locals (two.0 ∷ two.1 ∷ []))
     c.in-Across-Locals.is-0 (c.in-Across-Locals.is-1 ∙ ap Locals two.2) c.requires.family c.requires.row c.put_ends.new.g
-    (c.put_ends.ensures two.0 two.1 (c.as_slice-in-Across-Locals.ensures.value ∙ two.2) ∙ rw (c.in_ok-g-in-Across-Locals.ensures.pattern, c.in-Across-Locals.is-0) refl)
+    (across_refined c.args.sig.now c.args.family.now c.in-Across-Locals.a-0 c.in-Across-Locals.x-0 c.in-Across-Locals.p c.in-Across-Locals.b-0 c.in-Across-Locals.y-0 c.in-Across-Locals.q two.0 two.1
+    c.in_ok-g-in-Across-Locals.g c.put_ends.new.g c.in-Across-Locals.is-0 c.in_ok-g-in-Across-Locals.ensures.pattern (c.put_ends.ensures two.0 two.1 (c.as_slice-in-Across-Locals.ensures.value ∙ two.2)))
