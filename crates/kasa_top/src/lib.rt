@@ -3,3 +3,6 @@
 
 mod gate;
 mod tables;
+mod status;
+
+pub use status::Status;
