@@ -1,4 +1,4 @@
-use Rattle.std.proofs.Common.{◌≡◌, ◌≤◌, length, sym, ap, ◌∙◌}
+use Rattle.std.proofs.Common.{◌≡◌, ◌≤◌, length, sym, ap, ◌∙◌, arith, refl}
 use Rattle.kasa_graph.specs.Signature.{sites_of}
 use Rattle.kasa_graph.proofs.SignatureLemmas.{length-map, no_type, some_type}
 use Rattle.kasa_graph.proofs.signature.Signature.sites.Goals as goal

@@ -1,4 +1,4 @@
-use Rattle.std.proofs.Common.{◌≡◌, ◌≤◌, length, sym, ap, ◌∙◌}
+use Rattle.std.proofs.Common.{◌≡◌, ◌≤◌, length, sym, ap, ◌∙◌, arith, refl}
 use Rattle.kasa_graph.specs.Signature.{state_names}
 use Rattle.kasa_graph.proofs.SignatureLemmas.{length-map, no_type_states, no_site, some_site}
 use Rattle.kasa_graph.proofs.signature.Signature.states.Goals as goal
