@@ -46,9 +46,9 @@ impl marker::Model for Model {
 
     ghost Value = { ModelParts };
 
-    ghost use Rattle.kasa_rules.specs.Reached.{IsModel};
+    ghost use Rattle.kasa_rules.specs.Reached.{IsModel, IsWithinLimits};
 
     ghost view = { λ m. record { sig = m.sig; inits = m.inits; rules = m.rules } };
 
-    ghost invariant = { λ m. IsModel (record { sig = m.sig; inits = m.inits; rules = m.rules }) };
+    ghost invariant = { λ m. let model : ModelParts = record { sig = m.sig; inits = m.inits; rules = m.rules } in IsModel model × IsWithinLimits model };
 }

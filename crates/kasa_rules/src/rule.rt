@@ -93,11 +93,11 @@ pub struct Rule {
 }
 
 impl marker::Model for Rule {
-    ghost use Rattle.kasa_rules.specs.Rule.{RuleParts, IsRule};
+    ghost use Rattle.kasa_rules.specs.Rule.{RuleParts, IsRule, HasFewAgents};
 
     ghost Value = { RuleParts };
 
     ghost view = { λ r. record { name = r.name; left = r.left; actions = r.actions.items; made = r.made.items } };
 
-    ghost invariant = { λ r. IsRule (record { name = r.name; left = r.left; actions = r.actions.items; made = r.made.items }) };
+    ghost invariant = { λ r. let rule : RuleParts = record { name = r.name; left = r.left; actions = r.actions.items; made = r.made.items } in IsRule rule × HasFewAgents rule };
 }
