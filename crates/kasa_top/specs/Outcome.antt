@@ -5,7 +5,7 @@ use Rattle.kasa_families.specs.Table.{Table, AreTables, families_of}
 use Rattle.kasa_families.specs.Row.{AreAscending}
 use Rattle.kasa_graph.specs.Lists.{Has}
 use Rattle.kasa_pre.specs.Closed.{IsLeast}
-use Rattle.kasa_top.specs.Gate.{GateParts, model_of}
+use Rattle.kasa_top.specs.Gate.{GateParts, IsGate, model_of}
 use Rattle.kasa_top.specs.GateText.{IsGateText, IsGateTextOf}
 use Rattle.kasa_top.specs.Plan.{IsViewPlan}
 use Rattle.kasa_top.specs.LemmasText.{lemmas_text}
@@ -19,6 +19,7 @@ pub record IsReportOf (text report : List ℕ) : Type 0 where
   pub gate : GateParts
   pub tables : List Table
   pub few : length text ≤ 4194304
+  pub is_gate : IsGate gate
   pub read : IsGateTextOf text gate
   pub planned : IsViewPlan (model_of gate) (families_of tables)
   pub valid : AreTables gate.sig tables

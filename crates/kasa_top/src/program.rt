@@ -5,6 +5,7 @@ ghost use Rattle.kasa_edge.specs.Shelf.{held_at};
 ghost use Rattle.kasa_top.specs.Outcome.{Ends, IsNotRead, IsOutcome, IsReportOf};
 ghost use Rattle.kasa_top.specs.Words.{IsAnalyse, IsTextName};
 ghost use Rattle.kasa_top.specs.Fetched.{Fetched};
+ghost use Rattle.kasa_top.specs.Sound.{TakesSoundReport};
 ghost use Rattle.kasa_top.specs.Status.{fixed_text};
 
 use crate::Status;
@@ -130,10 +131,8 @@ fn finish<O: Sink>(out: &mut O, text: &[u8], status: Status) -> Status
     }
 }
 
-/// Does what the words ask for, over the texts of a shelf, and prints to a sink. `analyse MODEL` prints what the sites of
-/// each agent can never hold together, as the least closed tables of the planned views, which are orthogonal pattern
-/// sets after Feret and Ly. The status says how it ended; the text due is made whole before any of it is written.
-pub fn run<S: Shelf, O: Sink>(
+// Makes the text due and writes it.
+fn answer_and_print<S: Shelf, O: Sink>(
     alloc: Global,
     words: &[String],
     shelf: &mut S,
@@ -147,4 +146,20 @@ pub fn run<S: Shelf, O: Sink>(
         Err(Status::NoMemory) => Status::NoMemory,
         Err(status) => finish(out, status.text(), status),
     }
+}
+
+/// Does what the words ask for, over the texts of a shelf, and prints to a sink. `analyse MODEL` prints what the sites of
+/// each agent can never hold together, as the least closed tables of the planned views, which are orthogonal pattern
+/// sets after Feret and Ly. The status says how it ended; the text due is made whole before any of it is written.
+pub fn run<S: Shelf, O: Sink>(
+    alloc: Global,
+    words: &[String],
+    shelf: &mut S,
+    out: &mut O,
+) -> Status
+    ensures ends { Ends (map string_bytes words.now) (S.held shelf.old) (Rose (S.read_faults shelf.old) (S.read_faults shelf.new)) (Rose (O.faults out.old) (O.faults out.new)) result (O.taken out.old) (O.taken out.new) }
+    ensures sound { result ≡ Status.Done → TakesSoundReport (map string_bytes words.now) (S.held shelf.old) (O.taken out.old) (O.taken out.new) }
+    ensures same { S.held shelf.new ≡ S.held shelf.old }
+{
+    answer_and_print(alloc, words, shelf, out)
 }
