@@ -5,14 +5,12 @@ use Rattle.kasa_rules.specs.Reached.{IsModel}
 use Rattle.kasa_rules.proofs.ReachedLemmas.{IsMixtureOver-reached}
 use Rattle.kasa_pre.proofs.StepLemmas.{LemmaHolds-cover}
 use Rattle.kasa_pre.proofs.SoundLemmas.{Cover-reached}
+use Rattle.kasa_top.proofs.GateModel.{IsModel-gate}
 use Rattle.kasa_top.specs.declared.status.Status.{Status}
 use Rattle.kasa_top.specs.declared.status.Status.TheVariants.{Done, BadWords, ReadFault, WriteFault, NoMemory, NotRead}
 use Rattle.kasa_top.specs.Gate.{GateParts, IsGate, model_of}
 use Rattle.kasa_top.specs.Outcome.{Ends, IsReportOf, TakesAll}
 use Rattle.kasa_top.specs.Sound.{IsSound, TakesSoundReport}
-
-pub IsModel-gate : (gate : GateParts) → IsGate gate → IsModel (model_of gate)
-IsModel-gate gate is = ?
 
 pub report_is_sound : (text printed : List ℕ) (report : IsReportOf text printed) → IsSound text printed report
 report_is_sound text printed report m reached family among =
