@@ -1,1 +1,3 @@
 pub mod Gate
+pub mod GatePlan
+pub mod Plan

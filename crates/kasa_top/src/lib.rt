@@ -2,4 +2,5 @@
 #![tactic(auto)]
 
 mod gate;
+mod plan;
 mod tables;
