@@ -1,0 +1,4 @@
+pub mod GateRules
+pub mod PlanLists
+pub mod PlanSteps
+pub mod ViewOrder

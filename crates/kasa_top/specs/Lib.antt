@@ -1,3 +1,5 @@
 pub mod Gate
 pub mod LineText
 pub mod Status
+pub mod GatePlan
+pub mod Plan

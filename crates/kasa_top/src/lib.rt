@@ -2,6 +2,7 @@
 #![tactic(auto)]
 
 mod gate;
+mod plan;
 mod tables;
 mod status;
 
