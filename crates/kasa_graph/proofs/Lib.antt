@@ -5,6 +5,7 @@ pub mod EmbeddingLemmas
 pub mod MixtureLemmas
 pub mod CellLemmas
 pub mod RemoveLemmas
+pub mod FitLemmas
 pub mod BesideLemmas
 pub mod JoinedLemmas
 pub mod SignatureLemmas

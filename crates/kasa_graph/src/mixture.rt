@@ -223,24 +223,38 @@ impl Mixture {
         }
     }
 
+    // The state of a site, none where the site has no states.
+    pub(crate) fn state_at(&self, cell: usize, site: usize) -> Option<StateNo>
+        ensures { result ≡ state_in self.now cell site }
+    {
+        match site_at(&self.cells, cell, site) {
+            Some(site) => site.state,
+            None => None,
+        }
+    }
+
+    // The cell and the site that a site is bound to, none where it is free.
+    pub(crate) fn partner_at(&self, cell: usize, site: usize) -> Option<(u32, SiteNo)>
+        ensures { result ≡ partner_in self.now cell site }
+    {
+        match site_at(&self.cells, cell, site) {
+            Some(site) => site.partner,
+            None => None,
+        }
+    }
+
     /// The state of a site, none where the site has no states.
     pub fn state(&self, cell: u32, site: SiteNo) -> Option<StateNo>
         ensures { result ≡ state_in self.now cell site }
     {
-        match site_at(&self.cells, cell as usize, site.0 as usize) {
-            Some(site) => site.state,
-            None => None,
-        }
+        self.state_at(cell as usize, site.0 as usize)
     }
 
     /// The cell and the site that a site is bound to, none where it is free.
     pub fn partner(&self, cell: u32, site: SiteNo) -> Option<(u32, SiteNo)>
         ensures { result ≡ partner_in self.now cell site }
     {
-        match site_at(&self.cells, cell as usize, site.0 as usize) {
-            Some(site) => site.partner,
-            None => None,
-        }
+        self.partner_at(cell as usize, site.0 as usize)
     }
 
     /// Appends an agent of a type, in first states and free, and gives its cell.
