@@ -6,3 +6,5 @@ pub mod MixtureLemmas
 pub mod BesideLemmas
 pub mod JoinedLemmas
 pub mod SignatureLemmas
+pub mod NameLemmas
+pub mod NewNameLemmas

@@ -7,4 +7,4 @@ mod signature;
 
 pub use mixture::{Agent, AgentSite, AgentSites, Mixture};
 pub use pattern::{LinkTest, Node, NodeSites, Pattern, SiteTests, StateTest};
-pub use signature::Signature;
+pub use signature::{Signature, is_name};
