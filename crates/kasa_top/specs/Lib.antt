@@ -1,1 +1,4 @@
 pub mod Gate
+pub mod GateLines
+pub mod GateText
+pub mod GateReading
