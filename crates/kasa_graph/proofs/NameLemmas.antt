@@ -1,5 +1,5 @@
 -- Names among the keys of a signature's maps.
-use Rattle.std.proofs.Common.{◌≡◌, ◌<◌, ◌≤◌, ◌+◌, one-add, ℕ, zero, suc, List, [], ◌∷◌, ◌++◌, Bool, true, false, not, cond, length, map, refl, sym, ap, ◌∙◌, arith, Option, Some, None, MatchOption, slice_get, position, ◌==◌, Vec, nat_lt}
+use Rattle.std.proofs.Common.{◌≡◌, ◌<◌, ◌≤◌, ◌+◌, one-add, ℕ, zero, suc, List, [], ◌∷◌, ◌++◌, Bool, true, false, not, cond, length, map, refl, sym, ap, arith, Option, Some, None, MatchOption, slice_get, position, ◌==◌, Vec, nat_lt}
 use Rattle.std.specs.Global.{Global}
 use Rattle.std.specs.List.{position_or_len, list_any}
 use Rattle.std.specs.Map.{keys_of}

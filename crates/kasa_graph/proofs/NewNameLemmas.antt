@@ -1,5 +1,5 @@
 -- A signature with one more name is one still.
-use Rattle.std.proofs.Common.{◌≡◌, ◌≢◌, ◌<◌, ◌≤◌, ◌+◌, ◌⊎◌, inl, inr, ℕ, zero, suc, List, [], ◌∷◌, ◌++◌, length, map, refl, sym, ap, subst, ◌∙◌, arith, Option, Some, None, slice_get, option_map, length-append}
+use Rattle.std.proofs.Common.{◌≡◌, ◌≢◌, ◌<◌, ◌⊎◌, inl, inr, ℕ, zero, suc, List, [], ◌∷◌, ◌++◌, length, map, refl, sym, ap, subst, ◌∙◌, arith, Some, slice_get, length-append}
 use Rattle.std.specs.Option.{option_map_or}
 use Rattle.kasa_graph.specs.Lists.{update, Has, AllDifferent}
 use Rattle.kasa_graph.specs.Signature.{SiteEntry, TypeEntry, sites_of, state_names, type_names, site_names, with_new_type, with_new_site, with_state_name, with_new_state, IsName, AreNames, IsSignature}

@@ -6,7 +6,7 @@ use Rattle.std.proofs.lemmas.Option.{slice_get-map}
 use Rattle.std.proofs.lemmas.List.{take_all}
 use Rattle.indexmap.specs.IndexMap.{set_value_at}
 use Rattle.kasa_graph.specs.Lists.{update}
-use Rattle.kasa_graph.specs.Signature.{SiteEntry, TypeEntry, sites_of, state_names, state_counts, AreNames, IsSignature}
+use Rattle.kasa_graph.specs.Signature.{SiteEntry, TypeEntry, sites_of, state_names, state_counts, HasSite, AreNames, IsSignature}
 use Rattle.kasa_graph.specs.SignatureView.{StateSet, SiteMap, name_bytes, site_entry, type_entry}
 use Rattle.kasa_graph.proofs.ListLemmas.{AllDifferent-[]}
 
@@ -58,11 +58,18 @@ states_at es x = rw (slice_get-map site_entry es x) (by (slice_get es x))
     by None = refl
     by (Some e) = refl
 
+pub states_of : (es : List (Vec ℕ Global × StateSet)) (x : ℕ) (name : Vec ℕ Global) (states : StateSet) → slice_get es x ≡ Some (name, states) →
+    option_map_or (λ s. s.states) (slice_get (map site_entry es) x) [] ≡ map name_bytes states.keys
+states_of es x name states at = states_at es x ∙ rw at
+
 pub no_type : (es : List (Vec ℕ Global × SiteMap)) (a : ℕ) → None ≡ slice_get es a → sites_of (map type_entry es) a ≡ []
 no_type es a h = rw (sites_at es a, ← h)
 
 pub some_type : (es : List (Vec ℕ Global × SiteMap)) (a : ℕ) (e : Vec ℕ Global × SiteMap) → Some e ≡ slice_get es a → sites_of (map type_entry es) a ≡ map site_entry e.1.entries
 some_type es a e h = rw (sites_at es a, ← h)
+
+pub sites_in : (es : List (Vec ℕ Global × SiteMap)) (a agent : ℕ) (sig : List TypeEntry) (e : Vec ℕ Global × SiteMap) → map type_entry es ≡ sig → a ≡ agent → slice_get es a ≡ Some e → sites_of sig agent ≡ map site_entry e.1.entries
+sites_in es a agent sig e is same at = rw (← is, ← same) (some_type es a e (sym at))
 
 pub no_site : (es : List (Vec ℕ Global × SiteMap)) (a x : ℕ) (e : Vec ℕ Global × SiteMap) → Some e ≡ slice_get es a → None ≡ slice_get e.1.entries x → state_names (map type_entry es) a x ≡ []
 unfolding state_names
@@ -92,6 +99,21 @@ pub few_states : (es : List (Vec ℕ Global × SiteMap)) (a x : ℕ) (e : Vec �
 few_states es a x e f is at at_site =
     let few : length (state_names (map type_entry es) a x) ≤ 32 = (is.states a x).few in
     rw (some_site es a x e f at at_site, length-map name_bytes f.1.keys) at few
+
+-- a site belongs to a type, and is one of its sites
+pub site_within : (sig : List TypeEntry) (a x : ℕ) → HasSite sig a x → x < length (sites_of sig a)
+unfolding state_counts
+site_within sig a x h = rw (length-map (λ (s : SiteEntry). length s.states) (sites_of sig a)) at h
+
+pub type_of_site : (sig : List TypeEntry) (a x : ℕ) → HasSite sig a x → a < length sig
+unfolding state_counts sites_of
+type_of_site [] a x h = absurd (none a h)
+  where
+    none : (a : ℕ) → x < length (map (λ (s : SiteEntry). length s.states) (option_map_or (λ (t : TypeEntry). t.sites) (slice_get [] a) [])) → ⊥
+    none zero h = omega arith
+    none (suc a) h = omega arith
+type_of_site (t ∷ sig) zero x h = omega arith
+type_of_site (t ∷ sig) (suc a) x h = let rest = type_of_site sig a x h in omega arith
 
 -- another value at an index of a map
 module _ {X E : Type 0} (entry : Vec ℕ Global × X → E) where

@@ -108,6 +108,47 @@ impl Signature {
         Ok(AgentType(number as u16))
     }
 
+    /// Adds a site without states to a type, as the last one, and gives its number. Without memory the signature stays
+    /// as it was.
+    pub fn add_site(&mut self, agent: AgentType, name: &[u8]) -> Result<SiteNo, NoMemory>
+        requires owner { agent < length self.old }
+        requires is_new { ¬ Has (site_names self.old agent) name.now }
+        requires is_name { IsName name.now }
+        requires room { length (sites_of self.old agent) < 32 }
+        ensures number { IfOk result (λ x. x ≡ length (sites_of self.old agent)) }
+        ensures added { OnOk result (self.new ≡ with_new_site self.old agent name.now) }
+        ensures unchanged { OnErr result (self.new ≡ self.old) }
+    {
+        let alloc = *self.types.allocator();
+        let key = Vec::from_slice(alloc, name)?;
+        let (_, sites) = self.types.pair_mut(agent.0 as usize);
+        let number = sites.len();
+        sites.insert(key, IndexSet::new(alloc))?;
+        Ok(SiteNo(number as u8))
+    }
+
+    /// Adds a state to a site, as the last one, and gives its number. Without memory the signature stays as it was.
+    pub fn add_state(
+        &mut self,
+        agent: AgentType,
+        site: SiteNo,
+        name: &[u8],
+    ) -> Result<StateNo, NoMemory>
+        requires owner { HasSite self.old agent site }
+        requires is_new { ¬ Has (state_names self.old agent site) name.now }
+        requires is_name { IsName name.now }
+        requires room { length (state_names self.old agent site) < 32 }
+        ensures number { IfOk result (λ u. u ≡ length (state_names self.old agent site)) }
+        ensures added { OnOk result (self.new ≡ with_new_state self.old agent site name.now) }
+        ensures unchanged { OnErr result (self.new ≡ self.old) }
+    {
+        let alloc = *self.types.allocator();
+        let key = Vec::from_slice(alloc, name)?;
+        let (_, sites) = self.types.pair_mut(agent.0 as usize);
+        let number = insert_state(sites, site.0 as usize, key)?;
+        Ok(StateNo(number as u8))
+    }
+
     /// The number of the type with this name, None where no type has it.
     pub fn find_type(&self, name: &[u8]) -> Option<AgentType>
         ensures { MatchOption result (¬ Has (type_names self.now) name.now) (λ a. slice_get (type_names self.now) a ≡ Some name.now) }
@@ -171,4 +212,18 @@ fn is_name_byte(b: u8) -> bool
     ensures { IsTrue result ↔ IsNameByte b }
 {
     matches!(b, b'A'..=b'Z' | b'a'..=b'z' | b'0'..=b'9' | b'_')
+}
+
+// Puts a name last among the states of a site, and gives its number.
+fn insert_state(sites: &mut SiteNames, site: usize, name: Vec<u8>) -> Result<usize, NoMemory>
+    requires owner { site < length sites.old.entries }
+    requires is_new { ¬ Has (option_map_or (λ s. s.states) (slice_get (map site_entry sites.old.entries) site) []) name.items }
+    ensures number { IfOk result (λ u. u ≡ length (option_map_or (λ s. s.states) (slice_get (map site_entry sites.old.entries) site) [])) }
+    ensures added { OnOk result (map site_entry sites.new.entries ≡ with_state_name (map site_entry sites.old.entries) site name.items) }
+    ensures unchanged { OnErr result (map site_entry sites.new.entries ≡ map site_entry sites.old.entries) }
+{
+    let (_, states) = sites.pair_mut(site);
+    let number = states.len();
+    states.insert(name)?;
+    Ok(number)
 }

@@ -1,5 +1,3 @@
-use Rattle.std.proofs.Common.{◌≡◌, ◌≤◌, length, ap, ◌∙◌, sym}
-use Rattle.kasa_graph.specs.Signature.{sites_of}
 use Rattle.kasa_graph.proofs.SignatureLemmas.{few_sites, no_type, some_type}
 use Rattle.kasa_graph.proofs.signature.Signature.sites_by_name.Goals as goal
 

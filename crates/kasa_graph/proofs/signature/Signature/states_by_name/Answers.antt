@@ -1,5 +1,3 @@
-use Rattle.std.proofs.Common.{◌≡◌, ◌≤◌, length, ap, ◌∙◌, sym}
-use Rattle.kasa_graph.specs.Signature.{state_names}
 use Rattle.kasa_graph.proofs.SignatureLemmas.{few_states, no_type_states, no_site, some_site}
 use Rattle.kasa_graph.proofs.signature.Signature.states_by_name.Goals as goal
 
