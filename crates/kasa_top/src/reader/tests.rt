@@ -12,7 +12,7 @@ fn texts_inside_the_form_are_read(rt: HostRuntime) -> Result<(), Fail> {
         b"%agent: A(a{u v}, b{w}, c{x}, d{y})\n\n%init: 1 A()\n",
         b"'r' A(a{u/v}) @ 1\n%agent: A(a{u v})",
         b"%agent: A(a{u v})\n'r' A(a{u/u}) @ 007\n'r' A(a{u}) @ 1\n",
-        b"%agent: Abcdefghijklmnopqrstuvwxyzabcdefghijklmnopqrstuvwxyzabcdefghij()",
+        b"%agent: Abcdefghijklmnopqrstuvwxyzabcdefghijklmnopqrstuvwxyzabcdefghijk()",
         b"%agent: A()\n%agent: B()\n%agent: C()\n%agent: D()\n%agent: E()\n%agent: F()\n%agent: G()\n%agent: H()",
         b"%agent: A(a{a b c d e f g h})",
         b"%init: 1 A(b{v}, a{u})\n%agent: A(a{u}, b{u v})",
@@ -54,7 +54,7 @@ fn texts_outside_the_form_are_not_read(rt: HostRuntime) -> Result<(), Fail> {
         b"%agent: A(a{a b c d e f g h i})",
         b"%agent: 1A()",
         b"%agent: A_b()",
-        b"%agent: Abcdefghijklmnopqrstuvwxyzabcdefghijklmnopqrstuvwxyzabcdefghijk()",
+        b"%agent: Abcdefghijklmnopqrstuvwxyzabcdefghijklmnopqrstuvwxyzabcdefghijkl()",
         b"%agent: A()\n%agent: B()\n%agent: C()\n%agent: D()\n%agent: E()\n%agent: F()\n%agent: G()\n%agent: H()\n%agent: I()",
         b"%agent: A()\n%init: 2 A()",
         b"%agent: A()\n%init: 1 B()",
@@ -80,7 +80,8 @@ fn texts_outside_the_form_are_not_read(rt: HostRuntime) -> Result<(), Fail> {
 
 #[test]
 fn a_model_has_what_its_text_says(rt: HostRuntime) -> Result<(), Fail> {
-    let text = b"%init: 1 Gate(lamp{red})\n%agent: Gate(arm{down up}, lamp{green red})\n'go' Gate(lamp{red/green}, arm{down/down}) @ 1\n";
+    let text =
+        b"%init: 1 Gate(lamp{red})\n%agent: Gate(arm{down up}, lamp{green red})\n'go' Gate(lamp{red/green}, arm{down/down}) @ 1\n";
     let model = read_gate(rt.alloc(), text)?.ok_or("not read")?;
     assert_eq!(rt; model.sig.types(), 1);
     assert_eq!(rt; model.inits.len(), 1);
@@ -90,7 +91,7 @@ fn a_model_has_what_its_text_says(rt: HostRuntime) -> Result<(), Fail> {
     assert_eq!(rt; init.states[0].0, 0);
     assert_eq!(rt; init.states[1].0, 1);
     let rule = &model.rules[0];
-    assert!(rt; rule.name.as_bytes() == b"go");
+    assert!(rt; rule.name.as_bytes() == b"go".as_slice());
     assert_eq!(rt; rule.sites.len(), 2);
     let (arm, lamp) = (rule.sites[0], rule.sites[1]);
     assert!(rt; arm.tested.is_some_and(|u| u.0 == 0));
