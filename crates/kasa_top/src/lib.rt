@@ -3,7 +3,8 @@
 
 mod gate;
 mod plan;
-mod tables;
+mod reader;
 mod status;
+mod tables;
 
 pub use status::Status;
