@@ -3,6 +3,9 @@ pub mod PatternLemmas
 pub mod TestLemmas
 pub mod EmbeddingLemmas
 pub mod MixtureLemmas
+pub mod CellLemmas
+pub mod RemoveLemmas
+pub mod FitLemmas
 pub mod BesideLemmas
 pub mod JoinedLemmas
 pub mod SignatureLemmas

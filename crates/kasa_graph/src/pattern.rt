@@ -98,6 +98,12 @@ impl NodeSites {
         self.items[site]
     }
 
+    fn as_slice(&self) -> &[SiteTests]
+        ensures { result.now ≡ self.now }
+    {
+        self.items.as_slice()
+    }
+
     fn set(&mut self, site: usize, tests: SiteTests)
         requires { site < length self.old }
         ensures { self.new ≡ slice_set self.old site tests }
@@ -174,7 +180,23 @@ impl Pattern {
         requires { node < length self.now }
         ensures { agent_at self.now node ≡ Some result }
     {
-        self.nodes[node.0 as usize].agent
+        self.agent_of(node.0 as usize)
+    }
+
+    // The type of a node.
+    pub(crate) fn agent_of(&self, node: usize) -> AgentType
+        requires { node < length self.now }
+        ensures { agent_at self.now node ≡ Some result }
+    {
+        self.nodes[node].agent
+    }
+
+    // The tests at the sites of a node.
+    pub(crate) fn tests(&self, node: usize) -> &[SiteTests]
+        requires { node < length self.now }
+        ensures { (s : ℕ) → site_at self.now node s ≡ slice_get result.now s }
+    {
+        self.nodes[node].sites.as_slice()
     }
 
     /// The state test at a site.

@@ -1,4 +1,4 @@
-use Rattle.std.proofs.Common.{◌≡◌, ◌≤◌, ◌<◌, length, map, ap, ◌∙◌, arith}
+use Rattle.std.proofs.Common.{◌≤◌, ◌<◌, length, map, ap, ◌∙◌, arith}
 use Rattle.kasa_graph.specs.Pattern.{blank_site}
 use Rattle.kasa_graph.specs.Signature.{sites_of}
 use Rattle.kasa_graph.proofs.SignatureLemmas.{counts_more, counts_all, map-push}
