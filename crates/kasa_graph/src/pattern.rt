@@ -59,7 +59,7 @@ pub struct Node {
 #[derive(Drop)]
 pub struct Pattern {
     alloc: Global,
-    nodes: Vec<Node>,
+    pub(crate) nodes: Vec<Node>,
 }
 
 impl Model for Pattern {
@@ -98,6 +98,15 @@ impl NodeSites {
         self.items[site]
     }
 
+    // The same sites with the same tests.
+    fn copy(&self, alloc: Global) -> Result<NodeSites, NoMemory>
+        ensures { IfOk result (λ sites. sites ≡ self.now) }
+    {
+        Ok(NodeSites {
+            items: Vec::from_slice(alloc, &self.items)?,
+        })
+    }
+
     fn as_slice(&self) -> &[SiteTests]
         ensures { result.now ≡ self.now }
     {
@@ -112,8 +121,31 @@ impl NodeSites {
     }
 }
 
+impl Node {
+    // An equal node.
+    fn copy(&self, alloc: Global) -> Result<Node, NoMemory>
+        ensures { IfOk result (λ node. node ≡ self.now) }
+    {
+        Ok(Node {
+            agent: self.agent,
+            sites: self.sites.copy(alloc)?,
+        })
+    }
+}
+
+// Equal nodes.
+fn copy_nodes(alloc: Global, nodes: &[Node]) -> Result<Vec<Node>, NoMemory>
+    ensures { IfOk result (λ copies. copies.items ≡ nodes.now) }
+{
+    let mut copies = Vec::with_capacity(alloc, nodes.len())?;
+    for node in nodes {
+        copies.push(node.copy(alloc)?)?;
+    }
+    Ok(copies)
+}
+
 // The tests at a site.
-fn tests_at(nodes: &[Node], n: usize, s: usize) -> SiteTests
+pub(crate) fn tests_at(nodes: &[Node], n: usize, s: usize) -> SiteTests
     requires { HasNodeSite nodes.now n s }
     ensures { site_at nodes.now n s ≡ Some result }
 {
@@ -166,6 +198,23 @@ impl Pattern {
             alloc,
             nodes: Vec::new(alloc),
         }
+    }
+
+    // An equal pattern that keeps another allocator.
+    pub(crate) fn copy_in(&self, alloc: Global) -> Result<Pattern, NoMemory>
+        ensures { IfOk result (λ pattern. pattern ≡ self.now) }
+    {
+        Ok(Pattern {
+            alloc,
+            nodes: copy_nodes(alloc, &self.nodes)?,
+        })
+    }
+
+    /// An equal pattern.
+    pub fn copy(&self) -> Result<Pattern, NoMemory>
+        ensures { IfOk result (λ pattern. pattern ≡ self.now) }
+    {
+        self.copy_in(self.alloc)
     }
 
     /// How many nodes there are.
