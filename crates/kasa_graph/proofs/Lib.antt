@@ -10,3 +10,5 @@ pub mod MeetLemmas
 pub mod BesideLemmas
 pub mod JoinedLemmas
 pub mod SignatureLemmas
+pub mod NameLemmas
+pub mod NewNameLemmas

@@ -11,4 +11,4 @@ pub use embedding::is_embedding;
 pub use mixture::{Agent, AgentSite, AgentSites, Mixture};
 pub use pattern::{LinkTest, Node, NodeSites, Pattern, SiteTests, StateTest};
 pub use refine::{Test, implies, meet};
-pub use signature::Signature;
+pub use signature::{Signature, is_name};

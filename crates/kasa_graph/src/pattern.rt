@@ -5,19 +5,22 @@ ghost use Rattle.kasa_graph.specs.Signature.{state_counts};
 
 use crate::Signature;
 use kasa_num::{AgentType, NoMemory, NodeNo, SiteNo, StateNo};
+use smallvec::SmallVec;
 use std::alloc::Global;
 use std::marker::Model;
 
 /// What a pattern asks of the state of a site.
-#[derive(Clone, Copy, PartialEq, Eq, Debug)]
+#[derive(Clone, Copy, Default, PartialEq, Eq, Debug)]
 pub enum StateTest {
+    #[default]
     Any,
     Is(StateNo),
 }
 
 /// What a pattern asks of the link of a site.
-#[derive(Clone, Copy, PartialEq, Eq, Debug)]
+#[derive(Clone, Copy, Default, PartialEq, Eq, Debug)]
 pub enum LinkTest {
+    #[default]
     Any,
     Free,
     Bound,
@@ -26,17 +29,17 @@ pub enum LinkTest {
 }
 
 /// The tests at one site, and how many states the site has.
-#[derive(Clone, Copy, PartialEq, Eq, Debug)]
+#[derive(Clone, Copy, Default, PartialEq, Eq, Debug)]
 pub struct SiteTests {
     pub states: u8,
     pub state: StateTest,
     pub link: LinkTest,
 }
 
-/// A list of sites with their tests.
+/// A list of sites with their tests. Up to eight stand in the value itself, so that copies of most nodes take no memory.
 #[derive(Drop)]
 pub struct NodeSites {
-    items: Vec<SiteTests>,
+    items: SmallVec<SiteTests, 8>,
 }
 
 impl Model for NodeSites {
@@ -80,7 +83,7 @@ impl NodeSites {
     fn blank(alloc: Global, sig: &Signature, agent: AgentType) -> Result<NodeSites, NoMemory>
         ensures { IfOk result (λ sites. sites ≡ map blank_site (state_counts sig.now agent)) }
     {
-        let mut items = Vec::new(alloc);
+        let mut items = SmallVec::new(alloc);
         for site in 0..sig.sites(agent) {
             items.push(SiteTests {
                 states: sig.states(agent, SiteNo(site as u8)) as u8,
@@ -103,7 +106,7 @@ impl NodeSites {
         ensures { IfOk result (λ sites. sites ≡ self.now) }
     {
         Ok(NodeSites {
-            items: Vec::from_slice(alloc, &self.items)?,
+            items: SmallVec::from_slice(alloc, self.items.as_slice())?,
         })
     }
 

@@ -1,0 +1,6 @@
+pub mod GateRules
+pub mod PlanLists
+pub mod PlanSteps
+pub mod ViewOrder
+pub mod CutLemmas
+pub mod EachLemmas
