@@ -6,6 +6,7 @@ pub mod MixtureLemmas
 pub mod CellLemmas
 pub mod RemoveLemmas
 pub mod FitLemmas
+pub mod MeetLemmas
 pub mod BesideLemmas
 pub mod JoinedLemmas
 pub mod SignatureLemmas

@@ -2,13 +2,13 @@
 #![tactic(auto)]
 
 mod embedding;
-mod meet;
 mod mixture;
 mod pattern;
+mod refine;
 mod signature;
 
 pub use embedding::is_embedding;
-pub use meet::implies;
 pub use mixture::{Agent, AgentSite, AgentSites, Mixture};
 pub use pattern::{LinkTest, Node, NodeSites, Pattern, SiteTests, StateTest};
+pub use refine::{Test, implies, meet};
 pub use signature::{Signature, is_name};

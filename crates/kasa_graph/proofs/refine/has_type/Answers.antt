@@ -1,7 +1,7 @@
 use Rattle.std.proofs.Common.{◌<◌, length, arith}
 use Rattle.std.proofs.lemmas.Bool.{ltb-true}
 use Rattle.kasa_graph.proofs.FitLemmas.{agent_at_within}
-use Rattle.kasa_graph.proofs.meet.has_type.Goals as goal
+use Rattle.kasa_graph.proofs.refine.has_type.Goals as goal
 
 pub returns-else-node-nodes : goal.returns-else-node-nodes
 returns-else-node-nodes c = (
