@@ -1,2 +1,4 @@
 pub mod CutLemmas
 pub mod EachLemmas
+pub mod PartLemmas
+pub mod LineLemmas
