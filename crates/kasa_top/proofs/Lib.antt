@@ -4,3 +4,5 @@ pub mod PlanSteps
 pub mod ViewOrder
 pub mod CutLemmas
 pub mod EachLemmas
+pub mod PartLemmas
+pub mod LineLemmas

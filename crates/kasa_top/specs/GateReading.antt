@@ -84,18 +84,18 @@ declared_at bytes = do
   sites ← each declared_site_at texts
   if (length parts.2 == 0) && nat_le (length sites) 4 then Some (record { name = name; sites = sites }) else None
 
--- u or u/p
+-- u or u/p, by whether there is a stroke
+abbrev pub states_around : List ℕ → Option (List ℕ × List ℕ) → Option (List ℕ × Option (List ℕ))
+states_around bytes None = do
+  state ← name_at bytes
+  Some (state, None)
+states_around bytes (Some x) = do
+  state ← name_at x.0
+  next ← name_at x.1
+  Some (state, Some next)
+
 unfoldable pub states_used_at : List ℕ → Option (List ℕ × Option (List ℕ))
-states_used_at bytes = by (cut_at 47 bytes)
-  where
-    by : Option (List ℕ × List ℕ) → Option (List ℕ × Option (List ℕ))
-    by None = do
-      state ← name_at bytes
-      Some (state, None)
-    by (Some x) = do
-      state ← name_at x.0
-      next ← name_at x.1
-      Some (state, Some next)
+states_used_at bytes = states_around bytes (cut_at 47 bytes)
 
 unfoldable pub use_of : List ℕ → Option SiteUse
 use_of bytes = do
@@ -116,7 +116,7 @@ agent_at bytes = do
 unfoldable pub init_at : List ℕ → Option AgentParts
 init_at bytes = do
   agent ← agent_at bytes
-  if (length agent.1 == 0) && list_all (λ (u : SiteUse). is_none u.next) agent.0.sites then Some agent.0 else None
+  if length agent.1 == 0 then only (list_all (λ (u : SiteUse). is_none u.next) agent.0.sites) agent.0 else None
 
 unfoldable pub rule_at : List ℕ → Option RuleLineParts
 rule_at bytes = do
@@ -127,15 +127,16 @@ rule_at bytes = do
   rate ← behind (codes " @ ") agent.1
   if is_number rate then Some (record { name = name; agent = agent.0; rate = rate }) else None
 
+-- by what stands behind the beginnings of a declared type, an init and a rule
+abbrev pub line_behind : Option (List ℕ) → Option (List ℕ) → Option (List ℕ) → Option Line
+line_behind (Some rest) i r = option_map Declared (declared_at rest)
+line_behind None (Some rest) r = option_map Init (init_at rest)
+line_behind None None (Some rest) = option_map Rule (rule_at rest)
+line_behind None None None = None
+
 unfoldable pub line_at : List ℕ → Option Line
 line_at [] = Some Blank
-line_at (b ∷ bytes) = by (behind (codes "%agent: ") (b ∷ bytes)) (behind (codes "%init: 1 ") (b ∷ bytes)) (behind (codes "'") (b ∷ bytes))
-  where
-    by : Option (List ℕ) → Option (List ℕ) → Option (List ℕ) → Option Line
-    by (Some rest) i r = option_map Declared (declared_at rest)
-    by None (Some rest) r = option_map Init (init_at rest)
-    by None None (Some rest) = option_map Rule (rule_at rest)
-    by None None None = None
+line_at (b ∷ bytes) = line_behind (behind (codes "%agent: ") (b ∷ bytes)) (behind (codes "%init: 1 ") (b ∷ bytes)) (behind (codes "'") (b ∷ bytes))
 
 -- ---- what lines declare
 

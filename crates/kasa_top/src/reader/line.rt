@@ -1,8 +1,9 @@
 // The lines of a model's text, by names: a text is read line by line before its names get their numbers.
-ghost use Rattle.std.specs.Prelude.{◌≡◌, ◌==◌, IfOk, length, map, option_map};
+ghost use Rattle.std.specs.Prelude.{◌≡◌, ◌==◌, IfOk, codes, length, map, option_map};
 ghost use Rattle.std.specs.List.{slice_split, list_all};
+ghost use Rattle.std.specs.Option.{is_none};
 ghost use Rattle.kasa_top.specs.GateText.{is_gate_name, is_letter, is_digit, is_letter_or_digit, is_number};
-ghost use Rattle.kasa_top.specs.GateReading.{cut_at, behind, name_at, braced_at, bracketed_at, site_texts_at, behind_first, states_at, declared_site_at, declared_at, states_used_at, use_of, agent_at, init_at, rule_at, line_at, each};
+ghost use Rattle.kasa_top.specs.GateReading.{cut_at, behind, name_at, braced_at, bracketed_at, site_texts_at, behind_first, states_at, declared_site_at, declared_at, states_used_at, use_of, agent_at, init_at, rule_at, line_behind, line_at, each};
 
 use kasa_num::{Name, NoMemory};
 use std::alloc::Global;
@@ -97,13 +98,19 @@ pub fn line_of(alloc: Global, bytes: &[u8]) -> Result<Option<Line>, NoMemory>
     if let Some(rest) = behind(bytes, b"%agent: ") {
         return Ok(declared(alloc, rest)?.map(Line::Declared));
     }
+    init_or_rule(alloc, bytes)
+}
+
+fn init_or_rule(alloc: Global, bytes: &[u8]) -> Result<Option<Line>, NoMemory>
+    ensures { IfOk result (λ line. line ≡ line_behind None (behind (codes "%init: 1 ") bytes.now) (behind (codes "'") bytes.now)) }
+{
     if let Some(rest) = behind(bytes, b"%init: 1 ") {
         return Ok(init(alloc, rest)?.map(Line::Init));
     }
-    match behind(bytes, b"'") {
-        None => Ok(None),
-        Some(rest) => Ok(rule(alloc, rest)?.map(Line::Rule)),
-    }
+    let Some(rest) = behind(bytes, b"'") else {
+        return Ok(None);
+    };
+    Ok(rule(alloc, rest)?.map(Line::Rule))
 }
 
 // T(s{u v}, t{w})
@@ -195,14 +202,20 @@ fn init(alloc: Global, bytes: &[u8]) -> Result<Option<AgentText>, NoMemory>
     let Some((agent, rest)) = agent_of(alloc, bytes)? else {
         return Ok(None);
     };
-    if !rest.is_empty() || !are_unchanged(&agent.sites) {
+    if !rest.is_empty() {
+        return Ok(None);
+    }
+    if !is_unchanged(&agent) {
         return Ok(None);
     }
     Ok(Some(agent))
 }
 
-fn are_unchanged(sites: &[SiteUse]) -> bool {
-    sites.iter().all(|site| site.next.is_none())
+// No state is written.
+fn is_unchanged(agent: &AgentText) -> bool
+    ensures { result ≡ list_all (λ site. is_none site.next) agent.now.sites }
+{
+    agent.sites.iter().all(|site| site.next.is_none())
 }
 
 // name' T(s{u}, t{u/p}) @ N
