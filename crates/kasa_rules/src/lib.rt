@@ -8,4 +8,5 @@ mod rule;
 pub use model::{Inits, Model, Rules};
 pub use rule::{
     End, Fate, MadeAgent, MadeSite, MadeSites, NodeAction, Rule, SiteAction, SiteActions, Written,
+    touched,
 };

@@ -1,4 +1,8 @@
 // Rules: what they test, delete, write and create.
+ghost use Rattle.std.specs.Prelude.{◌≡◌, ◌<◌, ◌≤◌, length, Some, IsSome, slice_get, option_and_then};
+ghost use Rattle.kasa_graph.specs.Pattern.{HasNodeSite};
+ghost use Rattle.kasa_rules.specs.Rule.{fate_at, written_state, written_link, made_type, made_site, made_state, made_link, touched};
+
 use kasa_graph::Pattern;
 use kasa_num::{AgentType, Name, NodeNo, SiteNo, StateNo};
 use std::marker;
@@ -46,6 +50,14 @@ impl marker::Model for SiteActions {
     ghost view = { λ a. a.items.items };
 }
 
+impl SiteActions {
+    fn get(&self, site: usize) -> Option<SiteAction>
+        ensures { result ≡ slice_get self.now site }
+    {
+        self.items.get(site).copied()
+    }
+}
+
 /// What a rule does to a left node.
 #[derive(Drop)]
 pub struct NodeAction {
@@ -76,6 +88,15 @@ impl marker::Model for MadeSites {
     ghost view = { λ a. a.items.items };
 }
 
+impl MadeSites {
+    fn get(&self, site: usize) -> MadeSite
+        requires { site < length self.now }
+        ensures { slice_get self.now site ≡ Some result }
+    {
+        self.items[site]
+    }
+}
+
 /// A created agent.
 #[derive(Drop)]
 pub struct MadeAgent {
@@ -93,11 +114,111 @@ pub struct Rule {
 }
 
 impl marker::Model for Rule {
-    ghost use Rattle.kasa_rules.specs.Rule.{RuleParts, IsRule};
+    ghost use Rattle.kasa_rules.specs.Rule.{RuleParts, IsRule, HasFewAgents};
 
     ghost Value = { RuleParts };
 
     ghost view = { λ r. record { name = r.name; left = r.left; actions = r.actions.items; made = r.made.items } };
 
-    ghost invariant = { λ r. IsRule (record { name = r.name; left = r.left; actions = r.actions.items; made = r.made.items }) };
+    ghost invariant = { λ r. let rule : RuleParts = record { name = r.name; left = r.left; actions = r.actions.items; made = r.made.items } in IsRule rule × HasFewAgents rule };
+}
+
+// What is written at a site of a left node.
+fn find_action(actions: &[NodeAction], node: NodeNo, site: SiteNo) -> Option<SiteAction>
+    ensures { result ≡ option_and_then (λ a. slice_get a.sites site) (slice_get actions.now node) }
+{
+    match actions.get(node.0 as usize) {
+        None => None,
+        Some(action) => action.sites.get(site.0 as usize),
+    }
+}
+
+impl Rule {
+    /// The bytes of the rule's name, none where it has no name. It takes no memory.
+    pub fn name(&self) -> &[u8]
+        ensures { result.now ≡ self.now.name }
+    {
+        self.name.as_bytes()
+    }
+
+    /// The left pattern, of at most 12 nodes: where it is embedded, the rule fires. It takes no memory.
+    pub fn left(&self) -> &Pattern
+        ensures pattern { result.now ≡ self.now.left }
+        ensures few { length self.now.left ≤ 12 }
+    {
+        &self.left
+    }
+
+    /// Whether a left node is deleted or kept. It takes no memory.
+    pub fn fate(&self, node: NodeNo) -> Fate
+        requires { node < length self.now.left }
+        ensures { fate_at self.now node ≡ Some result }
+    {
+        self.actions[node.0 as usize].fate
+    }
+
+    /// The state that is written at a site of a left node. It takes no memory.
+    pub fn written_state(&self, node: NodeNo, site: SiteNo) -> Option<StateNo>
+        requires { HasNodeSite self.now.left node site }
+        ensures { result ≡ written_state self.now node site }
+    {
+        match find_action(&self.actions, node, site) {
+            None => None,
+            Some(action) => action.state,
+        }
+    }
+
+    /// The link that is written at a site of a left node. It takes no memory.
+    pub fn written_link(&self, node: NodeNo, site: SiteNo) -> Option<Written>
+        requires { HasNodeSite self.now.left node site }
+        ensures { result ≡ written_link self.now node site }
+    {
+        match find_action(&self.actions, node, site) {
+            None => None,
+            Some(action) => action.link,
+        }
+    }
+
+    /// How many agents are created, at most 12. It takes no memory.
+    pub fn made(&self) -> usize
+        ensures count { result ≡ length self.now.made }
+        ensures few { result ≤ 12 }
+    {
+        self.made.len()
+    }
+
+    /// The type of a created agent. It takes no memory.
+    pub fn made_type(&self, k: u16) -> AgentType
+        requires { k < length self.now.made }
+        ensures { made_type self.now k ≡ Some result }
+    {
+        self.made[k as usize].agent
+    }
+
+    /// The state of a site of a created agent, none where the site has no states. It takes no memory.
+    pub fn made_state(&self, k: u16, site: SiteNo) -> Option<StateNo>
+        requires { IsSome (made_site self.now k site) }
+        ensures { result ≡ made_state self.now k site }
+    {
+        self.made[k as usize].sites.get(site.0 as usize).state
+    }
+
+    /// The link of a site of a created agent. It takes no memory.
+    pub fn made_link(&self, k: u16, site: SiteNo) -> Written
+        requires { IsSome (made_site self.now k site) }
+        ensures { result ≡ made_link self.now k site }
+    {
+        self.made[k as usize].sites.get(site.0 as usize).link
+    }
+}
+
+/// Whether a site of the left pattern is touched: its node is deleted, or its link is written. It takes no memory.
+pub fn touched(rule: &Rule, node: NodeNo, site: SiteNo) -> bool
+    requires { HasNodeSite rule.now.left node site }
+    ensures { result ≡ touched rule.now node site }
+{
+    match rule.fate(node) {
+        Fate::Deleted => true,
+        Fate::Kept => rule.written_link(node, site).is_some(),
+    }
 }
