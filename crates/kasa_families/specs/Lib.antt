@@ -4,3 +4,4 @@ pub mod Pattern
 pub mod Orthogonal
 pub mod Table
 pub mod Inline
+pub mod Join

@@ -3,9 +3,11 @@
 
 mod family;
 pub mod laws;
+mod patterns;
 mod row;
 mod rows;
 
 pub use family::{Family, Sites};
+pub use patterns::{pattern, root};
 pub use row::{Local, LocalLink, Locals, Row, Spot};
 pub use rows::Rows;

@@ -4,3 +4,4 @@ pub mod SignatureView
 pub mod Pattern
 pub mod Mixture
 pub mod Embedding
+pub mod Meet

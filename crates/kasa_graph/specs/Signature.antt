@@ -1,8 +1,8 @@
 -- Signatures: types of agents with named sites, and the named states of these.
-use Rattle.std.specs.Prelude.{◌≡◌, ℕ, ◌<◌, ◌≤◌, ◌⊎◌, List, [], length, map, Some, slice_get}
+use Rattle.std.specs.Prelude.{◌≡◌, ℕ, ◌<◌, ◌≤◌, ◌⊎◌, List, [], ◌∷◌, ◌++◌, length, map, Some, slice_get}
 use Rattle.std.specs.Option.{option_map_or}
 use Rattle.std.specs.List.{AllByRecursion}
-use Rattle.kasa_graph.specs.Lists.{AllDifferent}
+use Rattle.kasa_graph.specs.Lists.{update, AllDifferent}
 
 -- a site: its name, and the names of its states
 pub record SiteEntry : Type 0 where
@@ -22,6 +22,13 @@ sites_of sig a = option_map_or (λ t. t.sites) (slice_get sig a) []
 unfoldable pub state_names : List TypeEntry → ℕ → ℕ → List (List ℕ)
 state_names sig a x = option_map_or (λ s. s.states) (slice_get (sites_of sig a) x) []
 
+-- the names of the types, and those of a type's sites
+abbrev pub type_names : List TypeEntry → List (List ℕ)
+type_names sig = map (λ t. t.name) sig
+
+abbrev pub site_names : List TypeEntry → ℕ → List (List ℕ)
+site_names sig a = map (λ s. s.name) (sites_of sig a)
+
 -- how many states each site of a type has
 unfoldable pub state_counts : List TypeEntry → ℕ → List ℕ
 state_counts sig a = map (λ s. length s.states) (sites_of sig a)
@@ -33,6 +40,23 @@ HasSite sig a x = x < length (state_counts sig a)
 -- the site has a state of this number
 abbrev pub HasState : List TypeEntry → ℕ → ℕ → ℕ → Type 0
 HasState sig a x u = (k : ℕ) × (slice_get (state_counts sig a) x ≡ Some k) × (u < k)
+
+-- ---- signatures with one more name
+
+-- a signature with one more type, without sites
+abbrev pub with_new_type : List TypeEntry → List ℕ → List TypeEntry
+with_new_type sig name = sig ++ record { name = name; sites = [] } ∷ []
+
+-- with one more site of a type, without states
+abbrev pub with_new_site : List TypeEntry → ℕ → List ℕ → List TypeEntry
+with_new_site sig a name = update sig a (λ t. record t { sites = t.sites ++ record { name = name; states = [] } ∷ [] })
+
+-- with one more state of a site
+abbrev pub with_state_name : List SiteEntry → ℕ → List ℕ → List SiteEntry
+with_state_name sites x name = update sites x (λ s. record s { states = s.states ++ name ∷ [] })
+
+abbrev pub with_new_state : List TypeEntry → ℕ → ℕ → List ℕ → List TypeEntry
+with_new_state sig a x name = update sig a (λ t. record t { sites = with_state_name t.sites x name })
 
 -- ---- what every signature keeps
 
@@ -46,14 +70,14 @@ pub record IsName (name : List ℕ) : Type 0 where
   pub few : length name ≤ 63
   pub bytes : AllByRecursion IsNameByte name
 
--- names are different among the types, the sites of a type and the states of a site, and few enough
+-- different names, at most so many
+pub record AreNames (most : ℕ) (names : List (List ℕ)) : Type 0 where
+  pub differ : AllDifferent names
+  pub few : length names ≤ most
+  pub are_names : (k : ℕ) (name : List ℕ) → slice_get names k ≡ Some name → IsName name
+
+-- at most 500 types, 32 sites of a type and 32 states of a site, each with names of their own
 pub record IsSignature (sig : List TypeEntry) : Type 0 where
-  pub types_differ : AllDifferent (map (λ t. t.name) sig)
-  pub sites_differ : (a : ℕ) → AllDifferent (map (λ s. s.name) (sites_of sig a))
-  pub states_differ : (a x : ℕ) → AllDifferent (state_names sig a x)
-  pub few_types : length sig ≤ 500
-  pub few_sites : (a : ℕ) → length (sites_of sig a) ≤ 32
-  pub few_states : (a x : ℕ) → length (state_names sig a x) ≤ 32
-  pub type_names : (a : ℕ) (t : TypeEntry) → slice_get sig a ≡ Some t → IsName t.name
-  pub site_names : (a x : ℕ) (s : SiteEntry) → slice_get (sites_of sig a) x ≡ Some s → IsName s.name
-  pub are_state_names : (a x u : ℕ) (name : List ℕ) → slice_get (state_names sig a x) u ≡ Some name → IsName name
+  pub types : AreNames 500 (type_names sig)
+  pub sites : (a : ℕ) → AreNames 32 (site_names sig a)
+  pub states : (a x : ℕ) → AreNames 32 (state_names sig a x)

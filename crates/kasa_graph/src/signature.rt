@@ -1,7 +1,9 @@
 // Signatures: types of agents, their sites and the states of these, by their names.
-ghost use Rattle.std.specs.Prelude.{◌≡◌, ℕ, ◌+◌, ◌<◌, ◌≤◌, [], length, Some, slice_get};
+ghost use Rattle.std.specs.Prelude.{◌≡◌, ℕ, ◌+◌, ◌<◌, ◌≤◌, ◌↔◌, [], length, Some, slice_get, map, option_map, IsTrue, MatchOption, IfSome, IfOk, OnOk, OnErr};
 ghost use Rattle.std.specs.Option.{option_map_or};
-ghost use Rattle.kasa_graph.specs.Signature.{sites_of, state_counts, state_names};
+ghost use Rattle.kasa_graph.specs.Lists.{Has};
+ghost use Rattle.kasa_graph.specs.SignatureView.{name_bytes, site_entry};
+ghost use Rattle.kasa_graph.specs.Signature.{sites_of, state_counts, state_names, type_names, site_names, HasSite, with_new_type, with_new_site, with_state_name, with_new_state, IsName, IsNameByte, IsSignature};
 
 use indexmap::{IndexMap, IndexSet};
 use kasa_num::{AgentType, NoMemory, SiteNo, StateNo};
@@ -42,9 +44,11 @@ impl Signature {
         }
     }
 
-    /// How many types there are.
+    /// How many types there are, at most 500.
     pub fn types(&self) -> usize
-        ensures { result ≡ length self.now }
+        ensures count { result ≡ length self.now }
+        ensures few { result ≤ 500 }
+        ensures valid { IsSignature self.now }
     {
         self.types.len()
     }
@@ -52,11 +56,12 @@ impl Signature {
     /// How many sites a type has, 0 for an unknown type.
     pub fn sites(&self, agent: AgentType) -> usize
         ensures count { result ≡ length (sites_of self.now agent) }
+        ensures counts { result ≡ length (state_counts self.now agent) }
         ensures few { result ≤ 32 }
     {
-        match self.types.get_index(agent.0 as usize) {
+        match self.sites_by_name(agent) {
             None => 0,
-            Some((_, sites)) => sites.len(),
+            Some(sites) => sites.len(),
         }
     }
 
@@ -65,12 +70,282 @@ impl Signature {
         ensures count { result ≡ length (state_names self.now agent site) }
         ensures few { result ≤ 32 }
     {
-        let Some((_, sites)) = self.types.get_index(agent.0 as usize) else {
-            return 0;
-        };
-        match sites.get_index(site.0 as usize) {
+        match self.states_by_name(agent, site) {
             None => 0,
-            Some((_, states)) => states.len(),
+            Some(states) => states.len(),
+        }
+    }
+
+    // The sites of a type, None for an unknown type.
+    fn sites_by_name(&self, agent: AgentType) -> Option<&SiteNames>
+        ensures sites { sites_of self.now agent ≡ option_map_or (λ sites. map site_entry sites.now.entries) result [] }
+        ensures few { IfSome result (λ sites. length sites.now.entries ≤ 32) }
+    {
+        let (_, sites) = self.types.get_index(agent.0 as usize)?;
+        Some(sites)
+    }
+
+    // The states of a site, None for an unknown site.
+    fn states_by_name(&self, agent: AgentType, site: SiteNo) -> Option<&StateNames>
+        ensures states { state_names self.now agent site ≡ option_map_or (λ states. map name_bytes states.now.keys) result [] }
+        ensures few { IfSome result (λ states. length states.now.keys ≤ 32) }
+    {
+        let (_, sites) = self.types.get_index(agent.0 as usize)?;
+        let (_, states) = sites.get_index(site.0 as usize)?;
+        Some(states)
+    }
+
+    /// Adds a type without sites, as the last one, and gives its number. Without memory the signature stays as it was.
+    pub fn add_type(&mut self, name: &[u8]) -> Result<AgentType, NoMemory>
+        requires is_new { ¬ Has (type_names self.old) name.now }
+        requires is_name { IsName name.now }
+        requires room { length self.old < 500 }
+        ensures number { IfOk result (λ a. a ≡ length self.old) }
+        ensures added { OnOk result (self.new ≡ with_new_type self.old name.now) }
+        ensures unchanged { OnErr result (self.new ≡ self.old) }
+    {
+        let alloc = *self.types.allocator();
+        let key = Vec::from_slice(alloc, name)?;
+        let number = self.types.len();
+        self.types.insert(key, IndexMap::new(alloc))?;
+        Ok(AgentType(number as u16))
+    }
+
+    /// Adds a site without states to a type, as the last one, and gives its number. Without memory the signature stays
+    /// as it was.
+    pub fn add_site(&mut self, agent: AgentType, name: &[u8]) -> Result<SiteNo, NoMemory>
+        requires owner { agent < length self.old }
+        requires is_new { ¬ Has (site_names self.old agent) name.now }
+        requires is_name { IsName name.now }
+        requires room { length (sites_of self.old agent) < 32 }
+        ensures number { IfOk result (λ x. x ≡ length (sites_of self.old agent)) }
+        ensures added { OnOk result (self.new ≡ with_new_site self.old agent name.now) }
+        ensures unchanged { OnErr result (self.new ≡ self.old) }
+    {
+        let alloc = *self.types.allocator();
+        let key = Vec::from_slice(alloc, name)?;
+        let (_, sites) = self.types.pair_mut(agent.0 as usize);
+        let number = sites.len();
+        sites.insert(key, IndexSet::new(alloc))?;
+        Ok(SiteNo(number as u8))
+    }
+
+    /// Adds a state to a site, as the last one, and gives its number. Without memory the signature stays as it was.
+    pub fn add_state(
+        &mut self,
+        agent: AgentType,
+        site: SiteNo,
+        name: &[u8],
+    ) -> Result<StateNo, NoMemory>
+        requires owner { HasSite self.old agent site }
+        requires is_new { ¬ Has (state_names self.old agent site) name.now }
+        requires is_name { IsName name.now }
+        requires room { length (state_names self.old agent site) < 32 }
+        ensures number { IfOk result (λ u. u ≡ length (state_names self.old agent site)) }
+        ensures added { OnOk result (self.new ≡ with_new_state self.old agent site name.now) }
+        ensures unchanged { OnErr result (self.new ≡ self.old) }
+    {
+        let alloc = *self.types.allocator();
+        let key = Vec::from_slice(alloc, name)?;
+        let (_, sites) = self.types.pair_mut(agent.0 as usize);
+        let number = insert_state(sites, site.0 as usize, key)?;
+        Ok(StateNo(number as u8))
+    }
+
+    /// The number of the type with this name, None where no type has it.
+    pub fn find_type(&self, name: &[u8]) -> Option<AgentType>
+        ensures { MatchOption result (¬ Has (type_names self.now) name.now) (λ a. slice_get (type_names self.now) a ≡ Some name.now) }
+    {
+        let number = self.types.get_index_of(name)?;
+        Some(AgentType(number as u16))
+    }
+
+    /// The number of the site of a type with this name, None where the type has no such site.
+    pub fn find_site(&self, agent: AgentType, name: &[u8]) -> Option<SiteNo>
+        ensures { MatchOption result (¬ Has (site_names self.now agent) name.now) (λ x. slice_get (site_names self.now agent) x ≡ Some name.now) }
+    {
+        let number = self.sites_by_name(agent)?.get_index_of(name)?;
+        Some(SiteNo(number as u8))
+    }
+
+    /// The number of the state of a site with this name, None where the site has no such state.
+    pub fn find_state(&self, agent: AgentType, site: SiteNo, name: &[u8]) -> Option<StateNo>
+        ensures { MatchOption result (¬ Has (state_names self.now agent site) name.now) (λ u. slice_get (state_names self.now agent site) u ≡ Some name.now) }
+    {
+        let number = self.states_by_name(agent, site)?.get_index_of(name)?;
+        Some(StateNo(number as u8))
+    }
+
+    /// The name of a type, None for an unknown type.
+    pub fn type_name(&self, agent: AgentType) -> Option<&[u8]>
+        ensures { option_map (λ n. n.now) result ≡ slice_get (type_names self.now) agent }
+    {
+        let (name, _) = self.types.get_index(agent.0 as usize)?;
+        Some(name.as_slice())
+    }
+
+    /// The name of a site, None for an unknown site.
+    pub fn site_name(&self, agent: AgentType, site: SiteNo) -> Option<&[u8]>
+        ensures { option_map (λ n. n.now) result ≡ slice_get (site_names self.now agent) site }
+    {
+        let (name, _) = self.sites_by_name(agent)?.get_index(site.0 as usize)?;
+        Some(name.as_slice())
+    }
+
+    /// The name of a state of a site, None for an unknown state.
+    pub fn state_name(&self, agent: AgentType, site: SiteNo, state: StateNo) -> Option<&[u8]>
+        ensures { option_map (λ n. n.now) result ≡ slice_get (state_names self.now agent site) state }
+    {
+        let name = self
+            .states_by_name(agent, site)?
+            .get_index(state.0 as usize)?;
+        Some(name.as_slice())
+    }
+}
+
+/// Whether the bytes are a name: 1 to 63 ASCII letters, digits and `_`.
+pub fn is_name(bytes: &[u8]) -> bool
+    ensures { IsTrue result ↔ IsName bytes.now }
+{
+    !bytes.is_empty() && bytes.len() <= 63 && bytes.iter().all(|b| is_name_byte(*b))
+}
+
+// An ASCII letter, a digit or `_`.
+fn is_name_byte(b: u8) -> bool
+    ensures { IsTrue result ↔ IsNameByte b }
+{
+    matches!(b, b'A'..=b'Z' | b'a'..=b'z' | b'0'..=b'9' | b'_')
+}
+
+// Puts a name last among the states of a site, and gives its number.
+fn insert_state(sites: &mut SiteNames, site: usize, name: Vec<u8>) -> Result<usize, NoMemory>
+    requires owner { site < length sites.old.entries }
+    requires is_new { ¬ Has (option_map_or (λ s. s.states) (slice_get (map site_entry sites.old.entries) site) []) name.items }
+    ensures number { IfOk result (λ u. u ≡ length (option_map_or (λ s. s.states) (slice_get (map site_entry sites.old.entries) site) [])) }
+    ensures added { OnOk result (map site_entry sites.new.entries ≡ with_state_name (map site_entry sites.old.entries) site name.items) }
+    ensures unchanged { OnErr result (map site_entry sites.new.entries ≡ map site_entry sites.old.entries) }
+{
+    let (_, states) = sites.pair_mut(site);
+    let number = states.len();
+    states.insert(name)?;
+    Ok(number)
+}
+
+#[cfg(test)]
+mod tests {
+    use super::*;
+    use std::process::Abort;
+    use std::test::Fail;
+
+    fn add_type(rt: &impl Abort, sig: &mut Signature, name: &[u8]) -> Result<AgentType, Fail> {
+        let taken = sig.find_type(name);
+        assert!(rt; is_name(name) && taken.is_none() && sig.types() < 500);
+        Ok(sig.add_type(name)?)
+    }
+
+    fn add_site(
+        rt: &impl Abort,
+        sig: &mut Signature,
+        agent: AgentType,
+        name: &[u8],
+    ) -> Result<SiteNo, Fail> {
+        let taken = sig.find_site(agent, name);
+        assert!(rt; is_name(name) && taken.is_none() && sig.sites(agent) < 32);
+        assert!(rt; (agent.0 as usize) < sig.types());
+        Ok(sig.add_site(agent, name)?)
+    }
+
+    fn add_state(
+        rt: &impl Abort,
+        sig: &mut Signature,
+        agent: AgentType,
+        site: SiteNo,
+        name: &[u8],
+    ) -> Result<StateNo, Fail> {
+        let taken = sig.find_state(agent, site, name);
+        assert!(rt; is_name(name) && taken.is_none() && sig.states(agent, site) < 32);
+        assert!(rt; (site.0 as usize) < sig.sites(agent));
+        Ok(sig.add_state(agent, site, name)?)
+    }
+
+    // Hub(port,lock{open 0}) and Cart(nose).
+    fn yard(rt: &impl Abort, alloc: Global) -> Result<Signature, Fail> {
+        let mut sig = Signature::new(alloc);
+        let hub = add_type(rt, &mut sig, b"Hub")?;
+        let cart = add_type(rt, &mut sig, b"Cart")?;
+        for name in [b"port".as_slice(), b"lock"] {
+            let _ = add_site(rt, &mut sig, hub, name)?;
+        }
+        let _ = add_site(rt, &mut sig, cart, b"nose")?;
+        for name in [b"open".as_slice(), b"0"] {
+            let _ = add_state(rt, &mut sig, hub, SiteNo(1), name)?;
+        }
+        Ok(sig)
+    }
+
+    #[test]
+    fn finds_names(rt: HostRuntime) -> Result<(), Fail> {
+        let sig = yard(&rt, rt.alloc())?;
+        for (name, number) in [
+            (b"Hub".as_slice(), Some(AgentType(0))),
+            (b"Cart", Some(AgentType(1))),
+            (b"Car", None),
+        ] {
+            assert_eq!(rt; sig.find_type(name), number);
+        }
+        for (agent, name, number) in [
+            (0, b"lock".as_slice(), Some(SiteNo(1))),
+            (1, b"nose", Some(SiteNo(0))),
+            (0, b"nose", None),
+            (2, b"nose", None),
+        ] {
+            assert_eq!(rt; sig.find_site(AgentType(agent), name), number);
+        }
+        for (site, name, number) in [
+            (1, b"0".as_slice(), Some(StateNo(1))),
+            (0, b"0", None),
+            (2, b"0", None),
+        ] {
+            assert_eq!(rt; sig.find_state(AgentType(0), SiteNo(site), name), number);
+        }
+        Ok(())
+    }
+
+    #[test]
+    fn counts_and_names(rt: HostRuntime) -> Result<(), Fail> {
+        let sig = yard(&rt, rt.alloc())?;
+        assert_eq!(rt; sig.types(), 2);
+        for (agent, sites) in [(0, 2), (1, 1), (2, 0)] {
+            assert_eq!(rt; sig.sites(AgentType(agent)), sites);
+        }
+        for (site, states) in [(0, 0), (1, 2), (2, 0)] {
+            assert_eq!(rt; sig.states(AgentType(0), SiteNo(site)), states);
+        }
+        assert!(rt; sig.type_name(AgentType(1)) == Some(b"Cart".as_slice()));
+        assert!(rt; sig.site_name(AgentType(0), SiteNo(1)) == Some(b"lock".as_slice()));
+        assert!(rt; sig.state_name(AgentType(0), SiteNo(1), StateNo(1)) == Some(b"0".as_slice()));
+        assert!(rt;
+            sig.state_name(AgentType(0), SiteNo(0), StateNo(0))
+                .is_none()
+        );
+        Ok(())
+    }
+
+    #[test]
+    fn tells_names(rt: HostRuntime) {
+        for name in [b"A".as_slice(), b"_", b"0", b"port_2", &[b'x'; 63]] {
+            assert!(rt; is_name(name));
+        }
+        for other in [
+            b"".as_slice(),
+            b"a-b",
+            b"a.b",
+            b"a ",
+            b"a~",
+            b"\xc3\xa9",
+            &[b'x'; 64],
+        ] {
+            assert!(rt; !is_name(other));
         }
     }
 }

@@ -2,4 +2,9 @@
 #![tactic(auto)]
 
 mod gate;
+mod plan;
+mod reader;
+mod status;
 mod tables;
+
+pub use status::Status;

@@ -1,0 +1,16 @@
+use Rattle.std.proofs.Common.{sym, ◌∙◌}
+use Rattle.kasa_top.specs.GateReading.{each, name_at}
+use Rattle.kasa_top.proofs.EachLemmas.{nows, each-more, each-none, each-all}
+use Rattle.kasa_top.proofs.reader.line.names_of.Goals as goal
+
+pub loop-text-preserved : goal.loop-text-preserved
+loop-text-preserved c =
+    rw c.in_ok-push.ensures.items
+    (each-more name_at c.loop-text.names.items c.args.texts.now c.loop-text.text-index _ c.in-Some.name (each name_at (nows c.args.texts.now)) c.loop-text-test.true (sym c.in_ok-name.ensures ∙ c.in-Some.is) c.loop-text.invariant)
+
+pub returns-in_default : goal.returns-in_default
+returns-in_default c =
+    each-none name_at c.loop-text.names.items c.args.texts.now c.loop-text.text-index _ (each name_at (nows c.args.texts.now)) c.loop-text-test.true (sym c.in_ok-name.ensures ∙ c.in_default.is) c.loop-text.invariant
+
+pub returns : goal.returns
+returns c = each-all name_at c.loop-text.names.items c.args.texts.now c.loop-text.text-index (each name_at (nows c.args.texts.now)) c.loop-text-test.false c.loop-text.invariant

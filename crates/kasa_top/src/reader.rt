@@ -1,0 +1,211 @@
+// Reading a model whose inits and rules speak of one agent each: its lines by names, and then the numbers of these.
+ghost use Rattle.std.specs.Prelude.{◌≡◌, ◌≤◌, IfOk, length};
+
+mod line;
+mod lines;
+
+use crate::gate::{GateInit, GateModel, GateRule, GateSite};
+use kasa_graph::Signature;
+use kasa_num::{AgentType, Name, NoMemory, SiteNo, StateNo};
+use line::{AgentText, RuleText, SiteText, SiteUse, TypeText};
+use lines::{Lines, lines_of};
+use std::alloc::Global;
+
+/// The model of a text, None where the text is none of a model.
+pub fn read_gate(alloc: Global, text: &[u8]) -> Result<Option<GateModel>, NoMemory>
+    requires { length text.now ≤ 4194304 }
+{
+    let Some(lines) = lines_of(alloc, text)? else {
+        return Ok(None);
+    };
+    let Some(sig) = signature_of(alloc, &lines.types)? else {
+        return Ok(None);
+    };
+    let Some(inits) = inits_of(alloc, &sig, &lines.inits)? else {
+        return Ok(None);
+    };
+    let Some(rules) = rules_of(alloc, &sig, &lines.rules)? else {
+        return Ok(None);
+    };
+    Ok(Some(GateModel { sig, inits, rules }))
+}
+
+// ---- the signature
+
+// At most 8 types, each declared once.
+fn signature_of(alloc: Global, types: &[TypeText]) -> Result<Option<Signature>, NoMemory> {
+    if types.len() > 8 {
+        return Ok(None);
+    }
+    let mut sig = Signature::new(alloc);
+    for declared in types {
+        if !add_type(&mut sig, declared)? {
+            return Ok(None);
+        }
+    }
+    Ok(Some(sig))
+}
+
+// False where a name is declared twice.
+fn add_type(sig: &mut Signature, declared: &TypeText) -> Result<bool, NoMemory> {
+    let name = declared.name.as_bytes();
+    if sig.find_type(name).is_some() {
+        return Ok(false);
+    }
+    let agent = sig.add_type(name)?;
+    for site in &declared.sites {
+        if !add_site(sig, agent, site)? {
+            return Ok(false);
+        }
+    }
+    Ok(true)
+}
+
+fn add_site(sig: &mut Signature, agent: AgentType, declared: &SiteText) -> Result<bool, NoMemory> {
+    let name = declared.name.as_bytes();
+    if sig.find_site(agent, name).is_some() {
+        return Ok(false);
+    }
+    let site = sig.add_site(agent, name)?;
+    add_states(sig, agent, site, &declared.states)
+}
+
+fn add_states(
+    sig: &mut Signature,
+    agent: AgentType,
+    site: SiteNo,
+    states: &[Name],
+) -> Result<bool, NoMemory> {
+    for state in states {
+        let name = state.as_bytes();
+        if sig.find_state(agent, site, name).is_some() {
+            return Ok(false);
+        }
+        sig.add_state(agent, site, name)?;
+    }
+    Ok(true)
+}
+
+// ---- agents
+
+// An agent with the numbers of its names: what is said of each site of its type.
+#[derive(Drop)]
+struct GateAgent {
+    agent: AgentType,
+    sites: Vec<GateSite>,
+}
+
+// None where a name isn't declared, or a site is named twice.
+fn agent_of(
+    alloc: Global,
+    sig: &Signature,
+    text: &AgentText,
+) -> Result<Option<GateAgent>, NoMemory> {
+    let Some(agent) = sig.find_type(text.name.as_bytes()) else {
+        return Ok(None);
+    };
+    let silent = GateSite {
+        tested: None,
+        written: None,
+    };
+    let mut sites = vec![in alloc; silent; sig.sites(agent)]?;
+    for used in &text.sites {
+        if !use_site(sig, agent, &mut sites, used) {
+            return Ok(None);
+        }
+    }
+    Ok(Some(GateAgent { agent, sites }))
+}
+
+// False where a name isn't declared, or the site is named already.
+fn use_site(sig: &Signature, agent: AgentType, sites: &mut [GateSite], used: &SiteUse) -> bool {
+    let Some(site) = sig.find_site(agent, used.site.as_bytes()) else {
+        return false;
+    };
+    let Some(said) = gate_site(sig, agent, site, used) else {
+        return false;
+    };
+    let at = site.0 as usize;
+    if sites[at].tested.is_some() {
+        return false;
+    }
+    sites[at] = said;
+    true
+}
+
+fn gate_site(sig: &Signature, agent: AgentType, site: SiteNo, used: &SiteUse) -> Option<GateSite> {
+    let state = sig.find_state(agent, site, used.state.as_bytes())?;
+    let Some(next) = &used.next else {
+        return Some(GateSite {
+            tested: Some(state),
+            written: None,
+        });
+    };
+    let next = sig.find_state(agent, site, next.as_bytes())?;
+    let written = if next == state { None } else { Some(next) };
+    Some(GateSite {
+        tested: Some(state),
+        written,
+    })
+}
+
+// ---- inits and rules
+
+fn inits_of(
+    alloc: Global,
+    sig: &Signature,
+    texts: &[AgentText],
+) -> Result<Option<Vec<GateInit>>, NoMemory> {
+    if texts.len() > 32 {
+        return Ok(None);
+    }
+    let mut inits = Vec::new(alloc);
+    for text in texts {
+        let Some(init) = init_of(alloc, sig, text)? else {
+            return Ok(None);
+        };
+        inits.push(init)?;
+    }
+    Ok(Some(inits))
+}
+
+// The first state where none is given.
+fn init_of(alloc: Global, sig: &Signature, text: &AgentText) -> Result<Option<GateInit>, NoMemory> {
+    let Some(GateAgent { agent, sites }) = agent_of(alloc, sig, text)? else {
+        return Ok(None);
+    };
+    let states = sites
+        .iter()
+        .map(|site| site.tested.unwrap_or(StateNo(0)))
+        .collect(alloc)?;
+    Ok(Some(GateInit { agent, states }))
+}
+
+fn rules_of(
+    alloc: Global,
+    sig: &Signature,
+    texts: &[RuleText],
+) -> Result<Option<Vec<GateRule>>, NoMemory> {
+    if texts.len() > 64 {
+        return Ok(None);
+    }
+    let mut rules = Vec::new(alloc);
+    for text in texts {
+        let Some(rule) = rule_of(alloc, sig, text)? else {
+            return Ok(None);
+        };
+        rules.push(rule)?;
+    }
+    Ok(Some(rules))
+}
+
+fn rule_of(alloc: Global, sig: &Signature, text: &RuleText) -> Result<Option<GateRule>, NoMemory> {
+    let Some(GateAgent { agent, sites }) = agent_of(alloc, sig, &text.agent)? else {
+        return Ok(None);
+    };
+    let name = Name::new(alloc, text.name.as_bytes())?;
+    Ok(Some(GateRule { name, agent, sites }))
+}
+
+#[cfg(test)]
+mod tests;
