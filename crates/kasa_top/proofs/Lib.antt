@@ -2,3 +2,4 @@ pub mod CutLemmas
 pub mod EachLemmas
 pub mod PartLemmas
 pub mod LineLemmas
+pub mod SaidLemmas
