@@ -6,3 +6,4 @@ pub mod CutLemmas
 pub mod EachLemmas
 pub mod PartLemmas
 pub mod LineLemmas
+pub mod SaidLemmas

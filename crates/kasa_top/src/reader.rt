@@ -1,5 +1,10 @@
 // Reading a model whose inits and rules speak of one agent each: its lines by names, and then the numbers of these.
-ghost use Rattle.std.specs.Prelude.{◌≡◌, ◌≤◌, IfOk, length};
+ghost use Rattle.std.specs.Prelude.{◌≡◌, ◌<◌, ◌≤◌, ◌++◌, ◌∷◌, [], IfOk, MatchOption, MatchBool, length};
+ghost use Rattle.std.specs.List.{AllByRecursion};
+ghost use Rattle.kasa_graph.specs.Lists.{AllDifferent};
+ghost use Rattle.kasa_graph.specs.Signature.{sites_of, state_names, HasSite};
+ghost use Rattle.kasa_top.specs.GateText.{IsGateName, IsSiteLine, IsTypeLine, HaveDifferentNames, AreTypes, IsUseOf};
+ghost use Rattle.kasa_top.specs.GateNumbers.{IsNewType, IsNewSite, with_new_sites, with_new_states};
 
 mod line;
 mod lines;
@@ -33,7 +38,10 @@ pub fn read_gate(alloc: Global, text: &[u8]) -> Result<Option<GateModel>, NoMemo
 // ---- the signature
 
 // At most 8 types, each declared once.
-fn signature_of(alloc: Global, types: &[TypeText]) -> Result<Option<Signature>, NoMemory> {
+fn signature_of(alloc: Global, types: &[TypeText]) -> Result<Option<Signature>, NoMemory>
+    requires { AllByRecursion IsTypeLine types.now }
+    ensures { IfOk result (λ o. MatchOption o (¬ AreTypes types.now) (λ sig. AreTypes types.now × (sig ≡ types.now))) }
+{
     if types.len() > 8 {
         return Ok(None);
     }
@@ -47,21 +55,40 @@ fn signature_of(alloc: Global, types: &[TypeText]) -> Result<Option<Signature>, 
 }
 
 // False where a name is declared twice.
-fn add_type(sig: &mut Signature, declared: &TypeText) -> Result<bool, NoMemory> {
+fn add_type(sig: &mut Signature, declared: &TypeText) -> Result<bool, NoMemory>
+    requires declared { IsTypeLine declared.now }
+    requires room { length sig.old < 500 }
+    ensures { IfOk result (λ added. MatchBool added (IsNewType sig.old declared.now × (sig.new ≡ sig.old ++ declared.now ∷ [])) (¬ IsNewType sig.old declared.now)) }
+{
     let name = declared.name.as_bytes();
     if sig.find_type(name).is_some() {
         return Ok(false);
     }
     let agent = sig.add_type(name)?;
-    for site in &declared.sites {
-        if !add_site(sig, agent, site)? {
+    add_sites(sig, agent, &declared.sites)
+}
+
+fn add_sites(sig: &mut Signature, agent: AgentType, sites: &[SiteText]) -> Result<bool, NoMemory>
+    requires owner { agent < length sig.old }
+    requires none { sites_of sig.old agent ≡ [] }
+    requires sites { AllByRecursion IsSiteLine sites.now }
+    requires few { length sites.now ≤ 4 }
+    ensures { IfOk result (λ added. MatchBool added (HaveDifferentNames sites.now × (sig.new ≡ with_new_sites sig.old agent sites.now)) (¬ HaveDifferentNames sites.now)) }
+{
+    for declared in sites {
+        if !add_site(sig, agent, declared)? {
             return Ok(false);
         }
     }
     Ok(true)
 }
 
-fn add_site(sig: &mut Signature, agent: AgentType, declared: &SiteText) -> Result<bool, NoMemory> {
+fn add_site(sig: &mut Signature, agent: AgentType, declared: &SiteText) -> Result<bool, NoMemory>
+    requires owner { agent < length sig.old }
+    requires declared { IsSiteLine declared.now }
+    requires room { length (sites_of sig.old agent) < 32 }
+    ensures { IfOk result (λ added. MatchBool added (IsNewSite (sites_of sig.old agent) declared.now × (sig.new ≡ with_new_sites sig.old agent (declared.now ∷ []))) (¬ IsNewSite (sites_of sig.old agent) declared.now)) }
+{
     let name = declared.name.as_bytes();
     if sig.find_site(agent, name).is_some() {
         return Ok(false);
@@ -75,7 +102,13 @@ fn add_states(
     agent: AgentType,
     site: SiteNo,
     states: &[Name],
-) -> Result<bool, NoMemory> {
+) -> Result<bool, NoMemory>
+    requires owner { HasSite sig.old agent site }
+    requires none { state_names sig.old agent site ≡ [] }
+    requires states { AllByRecursion IsGateName states.now }
+    requires few { length states.now ≤ 8 }
+    ensures { IfOk result (λ added. MatchBool added (AllDifferent states.now × (sig.new ≡ with_new_states sig.old agent site states.now)) (¬ AllDifferent states.now)) }
+{
     for state in states {
         let name = state.as_bytes();
         if sig.find_state(agent, site, name).is_some() {
@@ -96,29 +129,42 @@ struct GateAgent {
 }
 
 // None where a name isn't declared, or a site is named twice.
-fn agent_of(
-    alloc: Global,
-    sig: &Signature,
-    text: &AgentText,
-) -> Result<Option<GateAgent>, NoMemory> {
+fn agent_of(alloc: Global, sig: &Signature, text: &AgentText) -> Result<Option<GateAgent>, NoMemory>
+    requires { AreTypes sig.now }
+{
     let Some(agent) = sig.find_type(text.name.as_bytes()) else {
         return Ok(None);
     };
+    let Some(sites) = sites_of(alloc, sig, agent, &text.sites)? else {
+        return Ok(None);
+    };
+    Ok(Some(GateAgent { agent, sites }))
+}
+
+fn sites_of(
+    alloc: Global,
+    sig: &Signature,
+    agent: AgentType,
+    uses: &[SiteUse],
+) -> Result<Option<Vec<GateSite>>, NoMemory> {
     let silent = GateSite {
         tested: None,
         written: None,
     };
     let mut sites = vec![in alloc; silent; sig.sites(agent)]?;
-    for used in &text.sites {
+    for used in uses {
         if !use_site(sig, agent, &mut sites, used) {
             return Ok(None);
         }
     }
-    Ok(Some(GateAgent { agent, sites }))
+    Ok(Some(sites))
 }
 
 // False where a name isn't declared, or the site is named already.
-fn use_site(sig: &Signature, agent: AgentType, sites: &mut [GateSite], used: &SiteUse) -> bool {
+fn use_site(sig: &Signature, agent: AgentType, sites: &mut [GateSite], used: &SiteUse) -> bool
+    requires types { AreTypes sig.now }
+    requires sites { length sites.old ≡ length (sites_of sig.now agent) }
+{
     let Some(site) = sig.find_site(agent, used.site.as_bytes()) else {
         return false;
     };
