@@ -3,3 +3,4 @@ pub mod EachLemmas
 pub mod PartLemmas
 pub mod LineLemmas
 pub mod SaidLemmas
+pub mod BuildLemmas
