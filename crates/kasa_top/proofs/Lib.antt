@@ -7,3 +7,4 @@ pub mod EachLemmas
 pub mod PartLemmas
 pub mod LineLemmas
 pub mod SaidLemmas
+pub mod BuildLemmas
