@@ -4,3 +4,4 @@ pub mod PartLemmas
 pub mod LineLemmas
 pub mod SaidLemmas
 pub mod BuildLemmas
+pub mod NumberLemmas

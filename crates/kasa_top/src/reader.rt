@@ -1,10 +1,10 @@
 // Reading a model whose inits and rules speak of one agent each: its lines by names, and then the numbers of these.
-ghost use Rattle.std.specs.Prelude.{◌≡◌, ◌<◌, ◌≤◌, ◌++◌, ◌∷◌, [], IfOk, MatchOption, MatchBool, length};
+ghost use Rattle.std.specs.Prelude.{◌≡◌, ◌<◌, ◌≤◌, ◌++◌, ◌∷◌, ◌⊎◌, ◌==◌, if◌then◌else◌, [], IfOk, MatchOption, MatchBool, length};
 ghost use Rattle.std.specs.List.{AllByRecursion};
 ghost use Rattle.kasa_graph.specs.Lists.{AllDifferent};
 ghost use Rattle.kasa_graph.specs.Signature.{sites_of, state_names, HasSite};
-ghost use Rattle.kasa_top.specs.GateText.{IsGateName, IsSiteLine, IsTypeLine, HaveDifferentNames, AreTypes, IsUseOf};
-ghost use Rattle.kasa_top.specs.GateNumbers.{IsNewType, IsNewSite, with_new_sites, with_new_states};
+ghost use Rattle.kasa_top.specs.GateText.{IsGateName, IsSiteLine, IsTypeLine, HaveDifferentNames, AreTypes, IsUseOf, AreUsesOf, IsAgentOf, type_number, agent_sites_of, gate_sites, gate_site};
+ghost use Rattle.kasa_top.specs.GateNumbers.{IsNewType, IsNewSite, with_new_sites, with_new_states, IsUseIn, SaysMore, IsSaid};
 
 mod line;
 mod lines;
@@ -131,22 +131,26 @@ struct GateAgent {
 // None where a name isn't declared, or a site is named twice.
 fn agent_of(alloc: Global, sig: &Signature, text: &AgentText) -> Result<Option<GateAgent>, NoMemory>
     requires { AreTypes sig.now }
+    ensures { IfOk result (λ o. MatchOption o (¬ IsAgentOf sig.now text.now) (λ x. IsAgentOf sig.now text.now × (x.agent ≡ type_number sig.now text.now.name) × (x.sites.items ≡ agent_sites_of sig.now text.now))) }
 {
     let Some(agent) = sig.find_type(text.name.as_bytes()) else {
         return Ok(None);
     };
-    let Some(sites) = sites_of(alloc, sig, agent, &text.sites)? else {
+    let Some(sites) = agent_sites(alloc, sig, agent, &text.sites)? else {
         return Ok(None);
     };
     Ok(Some(GateAgent { agent, sites }))
 }
 
-fn sites_of(
+fn agent_sites(
     alloc: Global,
     sig: &Signature,
     agent: AgentType,
     uses: &[SiteUse],
-) -> Result<Option<Vec<GateSite>>, NoMemory> {
+) -> Result<Option<Vec<GateSite>>, NoMemory>
+    requires { AreTypes sig.now }
+    ensures { IfOk result (λ o. MatchOption o (¬ AreUsesOf (sites_of sig.now agent) uses.now) (λ v. AreUsesOf (sites_of sig.now agent) uses.now × (v.items ≡ gate_sites (sites_of sig.now agent) uses.now))) }
+{
     let silent = GateSite {
         tested: None,
         written: None,
@@ -160,10 +164,11 @@ fn sites_of(
     Ok(Some(sites))
 }
 
-// False where a name isn't declared, or the site is named already.
+// False where a name isn't declared, or something is said of the site already.
 fn use_site(sig: &Signature, agent: AgentType, sites: &mut [GateSite], used: &SiteUse) -> bool
     requires types { AreTypes sig.now }
     requires sites { length sites.old ≡ length (sites_of sig.now agent) }
+    ensures { MatchBool result (SaysMore (sites_of sig.now agent) used.now sites.old sites.new) ((¬ IsUseOf (sites_of sig.now agent) used.now) ⊎ IsSaid (sites_of sig.now agent) used.now sites.old) }
 {
     let Some(site) = sig.find_site(agent, used.site.as_bytes()) else {
         return false;
@@ -179,20 +184,30 @@ fn use_site(sig: &Signature, agent: AgentType, sites: &mut [GateSite], used: &Si
     true
 }
 
-fn gate_site(sig: &Signature, agent: AgentType, site: SiteNo, used: &SiteUse) -> Option<GateSite> {
-    let state = sig.find_state(agent, site, used.state.as_bytes())?;
+// None where a state isn't declared.
+fn gate_site(sig: &Signature, agent: AgentType, site: SiteNo, used: &SiteUse) -> Option<GateSite>
+    requires { AllDifferent (state_names sig.now agent site) }
+    ensures { MatchOption result (¬ IsUseIn (state_names sig.now agent site) used.now) (λ x. IsUseIn (state_names sig.now agent site) used.now × (x ≡ gate_site (state_names sig.now agent site) (Some used.now))) }
+{
+    let tested = sig.find_state(agent, site, used.state.as_bytes())?;
     let Some(next) = &used.next else {
         return Some(GateSite {
-            tested: Some(state),
+            tested: Some(tested),
             written: None,
         });
     };
     let next = sig.find_state(agent, site, next.as_bytes())?;
-    let written = if next == state { None } else { Some(next) };
     Some(GateSite {
-        tested: Some(state),
-        written,
+        tested: Some(tested),
+        written: changed(tested, next),
     })
+}
+
+// The next state, where it is another one.
+fn changed(state: StateNo, next: StateNo) -> Option<StateNo>
+    ensures { result ≡ (if next == state then None else Some next) }
+{
+    (next != state).then_some(next)
 }
 
 // ---- inits and rules
