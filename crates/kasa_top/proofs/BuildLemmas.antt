@@ -383,7 +383,7 @@ module _ (now types : List TypeEntry) (i : ℕ) (t : TypeEntry) (within : i < le
   pub types_stop : ¬ IsNewType now t → ¬ AreTypes types
   types_stop not_new differ = not_new (record {
     new = rw so_far (λ (h : Has (map (λ t. t.name) (take i types)) t.name).
-      stands_twice (map (λ t. t.name) types) i t.name (slice_get-map (λ (t : TypeEntry). t.name) types i ∙ ap (option_map (λ (t : TypeEntry). t.name)) (at_next types i t within is))
-      (rw take-map h) differ.differ);
+        stands_twice (map (λ t. t.name) types) i t.name (slice_get-map (λ (t : TypeEntry). t.name) types i ∙ ap (option_map (λ (t : TypeEntry). t.name)) (at_next types i t within is))
+        (rw take-map h) differ.differ);
     sites = rw is (AllByRecursion-at (λ t. HaveDifferentNames t.sites) types i t within differ.sites);
   })

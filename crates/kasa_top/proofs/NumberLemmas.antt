@@ -13,7 +13,8 @@ use Rattle.kasa_graph.specs.Signature.{SiteEntry, TypeEntry, type_names, site_na
 use Rattle.kasa_graph.proofs.ListLemmas.{some_map, some_at, same_or_not, AllDifferent-[], AllDifferent-head, AllDifferent-tail}
 use Rattle.kasa_top.specs.declared.gate.GateSite.{GateSite}
 use Rattle.kasa_top.specs.declared.reader.line.SiteUse.{SiteUse}
-use Rattle.kasa_top.specs.GateText.{HaveDifferentNames, AreTypes, IsNextIn, IsUseOf, AreUsesOf, number_of, use_at, written_state, gate_site, gate_sites}
+use Rattle.kasa_top.specs.GateLines.{AgentParts}
+use Rattle.kasa_top.specs.GateText.{HaveDifferentNames, AreTypes, IsNextIn, IsUseOf, AreUsesOf, IsAgentOf, type_number, agent_sites_of, number_of, use_at, written_state, gate_site, gate_sites}
 use Rattle.kasa_top.specs.GateNumbers.{IsUseIn, SaysMore, IsSaid}
 use Rattle.kasa_top.proofs.BuildLemmas.{AllDifferent-push, stands_twice, AllByRecursion-at, AllByRecursion-push, take_next, at_next}
 
@@ -112,10 +113,12 @@ module _ (sig : List TypeEntry) (a x : ℕ) (bytes : List ℕ) (u : SiteUse) (ty
       h (rw (states_of sig a x used.site stands) (used.state, used.next))
 
   pub already_said : (old : List GateSite) (before : GateSite) → IsUseIn (state_names sig a x) u → slice_get old x ≡ Some before → before.tested ≢ None → IsSaid (sites_of sig a) u old
+  unfolding found_use
   already_said old before h stands tested = record { used = found_use h; before = before; stands = stands; tested = tested }
 
   pub now_said : (old new : List GateSite) (before after : GateSite) → IsUseIn (state_names sig a x) u → slice_get old x ≡ Some before → before.tested ≡ None →
       after ≡ gate_site (state_names sig a x) (Some u) → new ≡ slice_set old x after → SaysMore (sites_of sig a) u old new
+  unfolding found_use
   now_said old new before after h stands tested e new_is = record {
     used = found_use h;
     silent = λ y k. let same : before ≡ y = same_Some before y (sym stands ∙ k) in rw (← same) tested;
@@ -249,3 +252,28 @@ module _ (sites : List SiteEntry) (differ : AllDifferent (map (λ s. s.name) sit
       let some = said_use twice.used.site.states (use_at twice.used.site.name (take i uses)) (λ e. twice.tested (ap (λ (x : GateSite). x.tested) same ∙ e)) in
       let has : Has (map (λ u. u.site) (take i uses)) u.site = use_at-has u.site (take i uses) (rw twice.used.named at some) in
       stands_twice (map (λ u. u.site) uses) i u.site (slice_get-map (λ (u : SiteUse). u.site) uses i ∙ ap (option_map (λ (u : SiteUse). u.site)) (at_next uses i u within is)) (rw take-map has) h.differ
+
+-- ---- an agent
+
+-- what was read of an agent's parts
+pub name_read : (bytes name : List ℕ) (sites : List SiteUse) (a : AgentParts) → bytes ≡ name → (let e : AgentParts = record { name = name; sites = sites } in e) ≡ a → bytes ≡ a.name
+name_read bytes name sites a e v = e ∙ ap (λ (z : AgentParts). z.name) v
+
+pub sites_read : (read : List SiteUse) (name : List ℕ) (sites : List SiteUse) (a : AgentParts) → read ≡ sites → (let e : AgentParts = record { name = name; sites = sites } in e) ≡ a → read ≡ a.sites
+sites_read read name sites a e v = e ∙ ap (λ (z : AgentParts). z.sites) v
+
+pub not_declared : (sig : List TypeEntry) (a : AgentParts) (bytes : List ℕ) → bytes ≡ a.name → ¬ Has (type_names sig) bytes → ¬ IsAgentOf sig a
+not_declared sig a bytes same none h = none (h.declared.0, h.declared.1 ∙ ap (λ z. Some z) (sym same))
+
+module _ (sig : List TypeEntry) (types : AreTypes sig) (a : AgentParts) (n : ℕ) (bytes : List ℕ) (uses : List SiteUse) (at : slice_get (type_names sig) n ≡ Some bytes) (same : bytes ≡ a.name) (same_uses : uses ≡ a.sites) where
+  pub agent_number : n ≡ type_number sig a.name
+  agent_number = sym (number_is (type_names sig) n a.name types.differ (at ∙ ap (λ z. Some z) same))
+
+  pub not_used : ¬ AreUsesOf (sites_of sig n) uses → ¬ IsAgentOf sig a
+  not_used none h = none (rw (same_uses, agent_number) h.sites)
+
+  pub agent_is : AreUsesOf (sites_of sig n) uses → IsAgentOf sig a
+  agent_is h = record { declared = (n, at ∙ ap (λ z. Some z) same); sites = rw (← agent_number, ← same_uses) h }
+
+  pub agent_said : (said : List GateSite) → said ≡ gate_sites (sites_of sig n) uses → said ≡ agent_sites_of sig a
+  agent_said said e = e ∙ rw (same_uses, agent_number) refl

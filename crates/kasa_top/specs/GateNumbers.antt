@@ -1,10 +1,12 @@
 -- From names to numbers: what the reader's private functions give.
-use Rattle.std.specs.Prelude.{◌≡◌, ◌≢◌, ℕ, List, [], ◌∷◌, ◌++◌, map, Some, None, slice_get, slice_set}
+use Rattle.std.specs.Prelude.{◌≡◌, ◌≢◌, ℕ, List, [], ◌∷◌, ◌++◌, ◌≤◌, length, map, Some, None, slice_get, slice_set}
+use Rattle.std.specs.List.{AllByRecursion}
 use Rattle.kasa_graph.specs.Lists.{Has, AllDifferent, update}
 use Rattle.kasa_graph.specs.Signature.{SiteEntry, TypeEntry, type_names}
 use Rattle.kasa_top.specs.declared.gate.GateSite.{GateSite}
 use Rattle.kasa_top.specs.declared.reader.line.SiteUse.{SiteUse}
-use Rattle.kasa_top.specs.GateText.{HaveDifferentNames, IsNextIn, IsUseOf, gate_site}
+use Rattle.kasa_top.specs.GateText.{HaveDifferentNames, IsNextIn, IsUseOf, IsAgentOf, gate_site}
+use Rattle.kasa_top.specs.GateLines.{AgentParts, RuleLineParts}
 
 -- a signature with more sites of a type
 abbrev pub with_new_sites : List TypeEntry → ℕ → List SiteEntry → List TypeEntry
@@ -40,3 +42,10 @@ pub record IsSaid (sites : List SiteEntry) (u : SiteUse) (old : List GateSite) :
   pub before : GateSite
   pub stands : slice_get old used.number ≡ Some before
   pub tested : before.tested ≢ None
+
+-- at most 32 inits, and at most 64 rules
+abbrev pub AreInits : List TypeEntry → List AgentParts → Type 0
+AreInits sig inits = AllByRecursion (IsAgentOf sig) inits × (length inits ≤ 32)
+
+abbrev pub AreRules : List TypeEntry → List RuleLineParts → Type 0
+AreRules sig rules = AllByRecursion (λ r. IsAgentOf sig r.agent) rules × (length rules ≤ 64)

@@ -1,10 +1,10 @@
 // Reading a model whose inits and rules speak of one agent each: its lines by names, and then the numbers of these.
-ghost use Rattle.std.specs.Prelude.{◌≡◌, ◌<◌, ◌≤◌, ◌++◌, ◌∷◌, ◌⊎◌, ◌==◌, if◌then◌else◌, [], IfOk, MatchOption, MatchBool, length};
+ghost use Rattle.std.specs.Prelude.{◌≡◌, ◌<◌, ◌≤◌, ◌++◌, ◌∷◌, ◌⊎◌, ◌==◌, if◌then◌else◌, [], IfOk, MatchOption, MatchBool, length, map, unwrap_or};
 ghost use Rattle.std.specs.List.{AllByRecursion};
 ghost use Rattle.kasa_graph.specs.Lists.{AllDifferent};
 ghost use Rattle.kasa_graph.specs.Signature.{sites_of, state_names, HasSite};
-ghost use Rattle.kasa_top.specs.GateText.{IsGateName, IsSiteLine, IsTypeLine, HaveDifferentNames, AreTypes, IsUseOf, AreUsesOf, IsAgentOf, type_number, agent_sites_of, gate_sites, gate_site};
-ghost use Rattle.kasa_top.specs.GateNumbers.{IsNewType, IsNewSite, with_new_sites, with_new_states, IsUseIn, SaysMore, IsSaid};
+ghost use Rattle.kasa_top.specs.GateText.{IsGateName, IsSiteLine, IsTypeLine, HaveDifferentNames, AreTypes, IsUseOf, AreUsesOf, IsAgentOf, type_number, agent_sites_of, gate_sites, gate_site, init_of, gate_rule_of};
+ghost use Rattle.kasa_top.specs.GateNumbers.{IsNewType, IsNewSite, with_new_sites, with_new_states, IsUseIn, SaysMore, IsSaid, AreInits, AreRules};
 
 mod line;
 mod lines;
@@ -212,11 +212,15 @@ fn changed(state: StateNo, next: StateNo) -> Option<StateNo>
 
 // ---- inits and rules
 
+// None for more than 32 inits, or where a name isn't declared.
 fn inits_of(
     alloc: Global,
     sig: &Signature,
     texts: &[AgentText],
-) -> Result<Option<Vec<GateInit>>, NoMemory> {
+) -> Result<Option<Vec<GateInit>>, NoMemory>
+    requires { AreTypes sig.now }
+    ensures { IfOk result (λ o. MatchOption o (¬ AreInits sig.now texts.now) (λ v. AreInits sig.now texts.now × (v.items ≡ map (init_of sig.now) texts.now))) }
+{
     if texts.len() > 32 {
         return Ok(None);
     }
@@ -231,22 +235,37 @@ fn inits_of(
 }
 
 // The first state where none is given.
-fn init_of(alloc: Global, sig: &Signature, text: &AgentText) -> Result<Option<GateInit>, NoMemory> {
+fn init_of(alloc: Global, sig: &Signature, text: &AgentText) -> Result<Option<GateInit>, NoMemory>
+    requires { AreTypes sig.now }
+    ensures { IfOk result (λ o. MatchOption o (¬ IsAgentOf sig.now text.now) (λ x. IsAgentOf sig.now text.now × (x ≡ init_of sig.now text.now))) }
+{
     let Some(GateAgent { agent, sites }) = agent_of(alloc, sig, text)? else {
         return Ok(None);
     };
-    let states = sites
-        .iter()
-        .map(|site| site.tested.unwrap_or(StateNo(0)))
-        .collect(alloc)?;
+    let states = states_of(alloc, &sites)?;
     Ok(Some(GateInit { agent, states }))
 }
 
+fn states_of(alloc: Global, sites: &[GateSite]) -> Result<Vec<StateNo>, NoMemory>
+    ensures { IfOk result (λ v. v.items ≡ map (λ x. unwrap_or x.tested 0) sites.now) }
+{
+    Ok(
+        sites
+            .iter()
+            .map(|site| site.tested.unwrap_or(StateNo(0)))
+            .collect(alloc)?,
+    )
+}
+
+// None for more than 64 rules, or where a name isn't declared.
 fn rules_of(
     alloc: Global,
     sig: &Signature,
     texts: &[RuleText],
-) -> Result<Option<Vec<GateRule>>, NoMemory> {
+) -> Result<Option<Vec<GateRule>>, NoMemory>
+    requires { AreTypes sig.now }
+    ensures { IfOk result (λ o. MatchOption o (¬ AreRules sig.now texts.now) (λ v. AreRules sig.now texts.now × (v.items ≡ map (gate_rule_of sig.now) texts.now))) }
+{
     if texts.len() > 64 {
         return Ok(None);
     }
@@ -260,7 +279,10 @@ fn rules_of(
     Ok(Some(rules))
 }
 
-fn rule_of(alloc: Global, sig: &Signature, text: &RuleText) -> Result<Option<GateRule>, NoMemory> {
+fn rule_of(alloc: Global, sig: &Signature, text: &RuleText) -> Result<Option<GateRule>, NoMemory>
+    requires { AreTypes sig.now }
+    ensures { IfOk result (λ o. MatchOption o (¬ IsAgentOf sig.now text.now.agent) (λ x. IsAgentOf sig.now text.now.agent × (x ≡ gate_rule_of sig.now text.now))) }
+{
     let Some(GateAgent { agent, sites }) = agent_of(alloc, sig, &text.agent)? else {
         return Ok(None);
     };

@@ -37,9 +37,11 @@ returns c =
     let types = c.args.types.now in
     let whole : take c.loop-declared.declared-index types ≡ types = take_all c.loop-declared.declared-index types c.loop-declared-test.false in
     let few : length types ≤ 8 = omega arith in
-    let h = c.loop-declared.invariant in
-    (record {
-      differ = subst (λ (ts : List TypeEntry). AllDifferent (map (λ t. t.name) ts)) whole h.differ;
-      sites = subst (AllByRecursion (λ t. HaveDifferentNames t.sites)) whole h.sites;
-      few = few;
-    }, h.added ∙ whole)
+    let h = c.loop-declared.invariant in (
+      record {
+        differ = subst (λ (ts : List TypeEntry). AllDifferent (map (λ t. t.name) ts)) whole h.differ;
+        sites = subst (AllByRecursion (λ t. HaveDifferentNames t.sites)) whole h.sites;
+        few = few;
+      },
+      h.added ∙ whole,
+    )
