@@ -11,7 +11,7 @@ use Rattle.kasa_graph.specs.Lists.{update, Has, AllDifferent}
 use Rattle.kasa_graph.specs.Signature.{SiteEntry, TypeEntry, type_names, site_names, sites_of, state_names, state_counts, HasSite, IsNameByte, IsName}
 use Rattle.kasa_graph.proofs.ListLemmas.{slice_get-update_same, slice_get-append_left, slice_get-append_right, some_at, some_map, AllDifferent-[], below_or}
 use Rattle.kasa_graph.proofs.SignatureLemmas.{site_within, type_of_site}
-use Rattle.kasa_top.specs.GateText.{is_letter, is_digit, is_letter_or_digit, is_gate_name, IsGateName, IsSiteLine, HaveDifferentNames}
+use Rattle.kasa_top.specs.GateText.{is_letter, is_digit, is_letter_or_digit, is_gate_name, IsGateName, IsSiteLine, IsTypeLine, HaveDifferentNames, AreTypes}
 use Rattle.kasa_top.specs.GateNumbers.{with_new_sites, with_new_states, IsNewSite, IsNewType}
 
 -- ---- names
@@ -275,8 +275,8 @@ module _ (sig now : List TypeEntry) (a i : ℕ) (sites : List SiteEntry) (s : Si
   pub sites_stop : ¬ IsNewSite (sites_of now a) s → ¬ HaveDifferentNames sites
   sites_stop not_new differ = not_new (record {
     new = rw sites_seen (λ (h : Has (map (λ s. s.name) (take i sites)) s.name).
-      stands_twice (map (λ s. s.name) sites) i s.name (slice_get-map (λ (s : SiteEntry). s.name) sites i ∙ ap (option_map (λ (s : SiteEntry). s.name)) (at_next sites i s within is))
-      (rw take-map h) differ.differ);
+        stands_twice (map (λ s. s.name) sites) i s.name (slice_get-map (λ (s : SiteEntry). s.name) sites i ∙ ap (option_map (λ (s : SiteEntry). s.name)) (at_next sites i s within is))
+        (rw take-map h) differ.differ);
     states = rw is (AllByRecursion-at (λ s. AllDifferent s.states) sites i s within differ.states);
   })
 
@@ -290,11 +290,13 @@ module _ (sig now : List TypeEntry) (a x : ℕ) (s : SiteEntry) (owner : a < len
   unfolding blank_site more_sites_of
   last_site =
       let t = some_at sig a owner in
-      let end : x ≡ length t.0.sites = last ∙ ap length (sites_at sig a t.0 t.1) in
-      (more_sites_of (blank_site ∷ []) t.0, record {
-        type = ap (λ z. slice_get z a) added ∙ slice_get-update_same sig a (more_sites_of (blank_site ∷ [])) ∙ rw t.1 refl;
-        site = slice_get-append_right t.0.sites (blank_site ∷ []) 0 x (omega arith);
-      })
+      let end : x ≡ length t.0.sites = last ∙ ap length (sites_at sig a t.0 t.1) in (
+        more_sites_of (blank_site ∷ []) t.0,
+        record {
+          type = ap (λ z. slice_get z a) added ∙ slice_get-update_same sig a (more_sites_of (blank_site ∷ [])) ∙ rw t.1 refl;
+          site = slice_get-append_right t.0.sites (blank_site ∷ []) 0 x (omega arith);
+        },
+      )
 
   pub last_owner : HasSite now a x
   last_owner = HasSite-at now a x last_site.0 blank_site last_site.1
@@ -345,9 +347,9 @@ pub site_added : {E : Type 0} (r : Result Bool E) (sig now new : List TypeEntry)
     IfOk r (λ added. MatchBool added (IsNewSite (sites_of sig a) s × (new ≡ with_new_sites sig a (s ∷ []))) (¬ IsNewSite (sites_of sig a) s))
 site_added r sig now new a x s states owner last added same fresh h =
     IfOk-weaker r _ _ (λ b.
-      MatchBool-then b
-      (λ p. (record { new = fresh; states = rw same at p.0 }, last_states sig now a x s owner last added new (p.1 ∙ ap (with_new_states now a x) same)))
-      (λ differ is_new. differ (rw same is_new.states))) h
+    MatchBool-then b
+    (λ p. (record { new = fresh; states = rw same at p.0 }, last_states sig now a x s owner last added new (p.1 ∙ ap (with_new_states now a x) same)))
+    (λ differ is_new. differ (rw same is_new.states))) h
 
 -- a type with its sites, or a name twice
 pub type_added : {E : Type 0} (r : Result Bool E) (sig now new : List TypeEntry) (a : ℕ) (t : TypeEntry) (sites : List SiteEntry) →
@@ -356,6 +358,32 @@ pub type_added : {E : Type 0} (r : Result Bool E) (sig now new : List TypeEntry)
     IfOk r (λ added. MatchBool added (IsNewType sig t × (new ≡ sig ++ t ∷ [])) (¬ IsNewType sig t))
 type_added r sig now new a t sites last added same fresh h =
     IfOk-weaker r _ _ (λ b.
-      MatchBool-then b
-      (λ p. (record { new = fresh; sites = rw same at p.0 }, type_sites sig now a t last added new (p.1 ∙ ap (with_new_sites now a) same)))
-      (λ differ is_new. differ (rw same is_new.sites))) h
+    MatchBool-then b
+    (λ p. (record { new = fresh; sites = rw same at p.0 }, type_sites sig now a t last added new (p.1 ∙ ap (with_new_sites now a) same)))
+    (λ differ is_new. differ (rw same is_new.sites))) h
+
+module _ (now types : List TypeEntry) (i : ℕ) (t : TypeEntry) (within : i < length types) (is : t ≡ get_or types i t) (so_far : now ≡ take i types) where
+  pub types_line : AllByRecursion IsTypeLine types → IsTypeLine t
+  types_line h = rw is (AllByRecursion-at IsTypeLine types i t within h)
+
+  pub types_room : length types ≤ 8 → length now < 500
+  types_room few = omega (arith, ap length so_far, length-take i types)
+
+  pub types_more : (new : List TypeEntry) → new ≡ now ++ t ∷ [] → new ≡ take (i + 1) types
+  types_more new e = e ∙ ap (λ ts. ts ++ t ∷ []) so_far ∙ sym (take_next types i t within is)
+
+  pub types_differ : AllDifferent (map (λ t. t.name) (take i types)) → IsNewType now t → AllDifferent (map (λ t. t.name) (take (i + 1) types))
+  types_differ differ new =
+      let fresh : ¬ Has (map (λ t. t.name) (take i types)) t.name = rw so_far at new.new in
+      rw (take_next types i t within is, map_push (λ (t : TypeEntry). t.name) (take i types) t) (AllDifferent-push (map (λ t. t.name) (take i types)) t.name differ fresh)
+
+  pub types_sites : AllByRecursion (λ t. HaveDifferentNames t.sites) (take i types) → IsNewType now t → AllByRecursion (λ t. HaveDifferentNames t.sites) (take (i + 1) types)
+  types_sites sites new = rw (take_next types i t within is) (AllByRecursion-push (λ t. HaveDifferentNames t.sites) (take i types) t sites new.sites)
+
+  pub types_stop : ¬ IsNewType now t → ¬ AreTypes types
+  types_stop not_new differ = not_new (record {
+    new = rw so_far (λ (h : Has (map (λ t. t.name) (take i types)) t.name).
+        stands_twice (map (λ t. t.name) types) i t.name (slice_get-map (λ (t : TypeEntry). t.name) types i ∙ ap (option_map (λ (t : TypeEntry). t.name)) (at_next types i t within is))
+        (rw take-map h) differ.differ);
+    sites = rw is (AllByRecursion-at (λ t. HaveDifferentNames t.sites) types i t within differ.sites);
+  })

@@ -8,3 +8,4 @@ pub mod PartLemmas
 pub mod LineLemmas
 pub mod SaidLemmas
 pub mod BuildLemmas
+pub mod NumberLemmas

@@ -198,11 +198,15 @@ pub record IsUseOf (sites : List SiteEntry) (u : SiteUse) : Type 0 where
   pub state : Has site.states u.state
   pub next : IsNextIn site.states u.next
 
--- the type is declared, and so are the sites with their states, each of them used once
+-- each of them is a use of a site, no two of one site
+pub record AreUsesOf (sites : List SiteEntry) (uses : List SiteUse) : Type 0 where
+  pub differ : AllDifferent (map (λ u. u.site) uses)
+  pub each : AllByRecursion (IsUseOf sites) uses
+
+-- the type is declared, and so are the sites with their states
 pub record IsAgentOf (sig : List TypeEntry) (a : AgentParts) : Type 0 where
   pub declared : Has (map (λ t. t.name) sig) a.name
-  pub sites_differ : AllDifferent (map (λ u. u.site) a.sites)
-  pub sites : AllByRecursion (IsUseOf (sites_of sig (type_number sig a.name))) a.sites
+  pub sites : AreUsesOf (sites_of sig (type_number sig a.name)) a.sites
 
 pub record AreLines (lines : List Line) : Type 0 where
   pub each : AllByRecursion IsLine lines

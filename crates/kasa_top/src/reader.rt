@@ -1,10 +1,10 @@
 // Reading a model whose inits and rules speak of one agent each: its lines by names, and then the numbers of these.
-ghost use Rattle.std.specs.Prelude.{◌≡◌, ◌<◌, ◌≤◌, ◌++◌, ◌∷◌, [], IfOk, MatchOption, MatchBool, length};
+ghost use Rattle.std.specs.Prelude.{◌≡◌, ◌<◌, ◌≤◌, ◌++◌, ◌∷◌, ◌⊎◌, ◌==◌, if◌then◌else◌, [], IfOk, MatchOption, MatchBool, length, map, unwrap_or};
 ghost use Rattle.std.specs.List.{AllByRecursion};
 ghost use Rattle.kasa_graph.specs.Lists.{AllDifferent};
 ghost use Rattle.kasa_graph.specs.Signature.{sites_of, state_names, HasSite};
-ghost use Rattle.kasa_top.specs.GateText.{IsGateName, IsSiteLine, IsTypeLine, HaveDifferentNames, AreTypes, IsUseOf};
-ghost use Rattle.kasa_top.specs.GateNumbers.{IsNewType, IsNewSite, with_new_sites, with_new_states};
+ghost use Rattle.kasa_top.specs.GateText.{IsGateName, IsSiteLine, IsTypeLine, HaveDifferentNames, AreTypes, IsUseOf, AreUsesOf, IsAgentOf, type_number, agent_sites_of, gate_sites, gate_site, init_of, gate_rule_of};
+ghost use Rattle.kasa_top.specs.GateNumbers.{IsNewType, IsNewSite, with_new_sites, with_new_states, IsUseIn, SaysMore, IsSaid, AreInits, AreRules};
 
 mod line;
 mod lines;
@@ -131,22 +131,26 @@ struct GateAgent {
 // None where a name isn't declared, or a site is named twice.
 fn agent_of(alloc: Global, sig: &Signature, text: &AgentText) -> Result<Option<GateAgent>, NoMemory>
     requires { AreTypes sig.now }
+    ensures { IfOk result (λ o. MatchOption o (¬ IsAgentOf sig.now text.now) (λ x. IsAgentOf sig.now text.now × (x.agent ≡ type_number sig.now text.now.name) × (x.sites.items ≡ agent_sites_of sig.now text.now))) }
 {
     let Some(agent) = sig.find_type(text.name.as_bytes()) else {
         return Ok(None);
     };
-    let Some(sites) = sites_of(alloc, sig, agent, &text.sites)? else {
+    let Some(sites) = agent_sites(alloc, sig, agent, &text.sites)? else {
         return Ok(None);
     };
     Ok(Some(GateAgent { agent, sites }))
 }
 
-fn sites_of(
+fn agent_sites(
     alloc: Global,
     sig: &Signature,
     agent: AgentType,
     uses: &[SiteUse],
-) -> Result<Option<Vec<GateSite>>, NoMemory> {
+) -> Result<Option<Vec<GateSite>>, NoMemory>
+    requires { AreTypes sig.now }
+    ensures { IfOk result (λ o. MatchOption o (¬ AreUsesOf (sites_of sig.now agent) uses.now) (λ v. AreUsesOf (sites_of sig.now agent) uses.now × (v.items ≡ gate_sites (sites_of sig.now agent) uses.now))) }
+{
     let silent = GateSite {
         tested: None,
         written: None,
@@ -160,10 +164,11 @@ fn sites_of(
     Ok(Some(sites))
 }
 
-// False where a name isn't declared, or the site is named already.
+// False where a name isn't declared, or something is said of the site already.
 fn use_site(sig: &Signature, agent: AgentType, sites: &mut [GateSite], used: &SiteUse) -> bool
     requires types { AreTypes sig.now }
     requires sites { length sites.old ≡ length (sites_of sig.now agent) }
+    ensures { MatchBool result (SaysMore (sites_of sig.now agent) used.now sites.old sites.new) ((¬ IsUseOf (sites_of sig.now agent) used.now) ⊎ IsSaid (sites_of sig.now agent) used.now sites.old) }
 {
     let Some(site) = sig.find_site(agent, used.site.as_bytes()) else {
         return false;
@@ -179,29 +184,43 @@ fn use_site(sig: &Signature, agent: AgentType, sites: &mut [GateSite], used: &Si
     true
 }
 
-fn gate_site(sig: &Signature, agent: AgentType, site: SiteNo, used: &SiteUse) -> Option<GateSite> {
-    let state = sig.find_state(agent, site, used.state.as_bytes())?;
+// None where a state isn't declared.
+fn gate_site(sig: &Signature, agent: AgentType, site: SiteNo, used: &SiteUse) -> Option<GateSite>
+    requires { AllDifferent (state_names sig.now agent site) }
+    ensures { MatchOption result (¬ IsUseIn (state_names sig.now agent site) used.now) (λ x. IsUseIn (state_names sig.now agent site) used.now × (x ≡ gate_site (state_names sig.now agent site) (Some used.now))) }
+{
+    let tested = sig.find_state(agent, site, used.state.as_bytes())?;
     let Some(next) = &used.next else {
         return Some(GateSite {
-            tested: Some(state),
+            tested: Some(tested),
             written: None,
         });
     };
     let next = sig.find_state(agent, site, next.as_bytes())?;
-    let written = if next == state { None } else { Some(next) };
     Some(GateSite {
-        tested: Some(state),
-        written,
+        tested: Some(tested),
+        written: changed(tested, next),
     })
+}
+
+// The next state, where it is another one.
+fn changed(state: StateNo, next: StateNo) -> Option<StateNo>
+    ensures { result ≡ (if next == state then None else Some next) }
+{
+    (next != state).then_some(next)
 }
 
 // ---- inits and rules
 
+// None for more than 32 inits, or where a name isn't declared.
 fn inits_of(
     alloc: Global,
     sig: &Signature,
     texts: &[AgentText],
-) -> Result<Option<Vec<GateInit>>, NoMemory> {
+) -> Result<Option<Vec<GateInit>>, NoMemory>
+    requires { AreTypes sig.now }
+    ensures { IfOk result (λ o. MatchOption o (¬ AreInits sig.now texts.now) (λ v. AreInits sig.now texts.now × (v.items ≡ map (init_of sig.now) texts.now))) }
+{
     if texts.len() > 32 {
         return Ok(None);
     }
@@ -216,22 +235,37 @@ fn inits_of(
 }
 
 // The first state where none is given.
-fn init_of(alloc: Global, sig: &Signature, text: &AgentText) -> Result<Option<GateInit>, NoMemory> {
+fn init_of(alloc: Global, sig: &Signature, text: &AgentText) -> Result<Option<GateInit>, NoMemory>
+    requires { AreTypes sig.now }
+    ensures { IfOk result (λ o. MatchOption o (¬ IsAgentOf sig.now text.now) (λ x. IsAgentOf sig.now text.now × (x ≡ init_of sig.now text.now))) }
+{
     let Some(GateAgent { agent, sites }) = agent_of(alloc, sig, text)? else {
         return Ok(None);
     };
-    let states = sites
-        .iter()
-        .map(|site| site.tested.unwrap_or(StateNo(0)))
-        .collect(alloc)?;
+    let states = states_of(alloc, &sites)?;
     Ok(Some(GateInit { agent, states }))
 }
 
+fn states_of(alloc: Global, sites: &[GateSite]) -> Result<Vec<StateNo>, NoMemory>
+    ensures { IfOk result (λ v. v.items ≡ map (λ x. unwrap_or x.tested 0) sites.now) }
+{
+    Ok(
+        sites
+            .iter()
+            .map(|site| site.tested.unwrap_or(StateNo(0)))
+            .collect(alloc)?,
+    )
+}
+
+// None for more than 64 rules, or where a name isn't declared.
 fn rules_of(
     alloc: Global,
     sig: &Signature,
     texts: &[RuleText],
-) -> Result<Option<Vec<GateRule>>, NoMemory> {
+) -> Result<Option<Vec<GateRule>>, NoMemory>
+    requires { AreTypes sig.now }
+    ensures { IfOk result (λ o. MatchOption o (¬ AreRules sig.now texts.now) (λ v. AreRules sig.now texts.now × (v.items ≡ map (gate_rule_of sig.now) texts.now))) }
+{
     if texts.len() > 64 {
         return Ok(None);
     }
@@ -245,7 +279,10 @@ fn rules_of(
     Ok(Some(rules))
 }
 
-fn rule_of(alloc: Global, sig: &Signature, text: &RuleText) -> Result<Option<GateRule>, NoMemory> {
+fn rule_of(alloc: Global, sig: &Signature, text: &RuleText) -> Result<Option<GateRule>, NoMemory>
+    requires { AreTypes sig.now }
+    ensures { IfOk result (λ o. MatchOption o (¬ IsAgentOf sig.now text.now.agent) (λ x. IsAgentOf sig.now text.now.agent × (x ≡ gate_rule_of sig.now text.now))) }
+{
     let Some(GateAgent { agent, sites }) = agent_of(alloc, sig, &text.agent)? else {
         return Ok(None);
     };

@@ -23,4 +23,3 @@ add_site-requires-clause-declared c = sites_line c.args.sig.now c.loop-declared.
 
 pub add_site-requires-clause-room : goal.add_site-requires-clause-room
 add_site-requires-clause-room c = sites_room c.args.sig.now c.loop-declared.sig c.args.agent c.loop-declared.declared-index c.args.sites.now c.declared-item.result c.requires.owner c.requires.none c.loop-declared-test.true c.declared-item.is c.loop-declared.invariant.added c.requires.few
-
