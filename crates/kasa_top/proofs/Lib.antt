@@ -1,0 +1,9 @@
+pub mod BeforeRow
+pub mod GateLemmas
+pub mod HeldLemmas
+pub mod InitialRows
+pub mod RoundLemmas
+pub mod RowsOver
+pub mod SiteLemmas
+pub mod ViewRows
+pub mod YieldedRows

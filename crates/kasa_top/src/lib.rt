@@ -2,4 +2,5 @@
 #![tactic(auto)]
 
 mod gate;
+mod least;
 mod tables;
