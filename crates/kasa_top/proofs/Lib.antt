@@ -1,4 +1,5 @@
 pub mod GateRules
+pub mod GateModel
 pub mod PlanLists
 pub mod PlanSteps
 pub mod ViewOrder
@@ -9,3 +10,18 @@ pub mod LineLemmas
 pub mod SaidLemmas
 pub mod BuildLemmas
 pub mod NumberLemmas
+pub mod BeforeRow
+pub mod GateLemmas
+pub mod HeldLemmas
+pub mod InitialRows
+pub mod RoundLemmas
+pub mod RowsOver
+pub mod SiteLemmas
+pub mod ViewRows
+pub mod YieldedRows
+pub mod SectionLemmas
+pub mod Written
+pub mod WordLemmas
+pub mod FetchedLemmas
+pub mod OutcomeLemmas
+pub mod ReportLemmas

@@ -2,9 +2,15 @@
 #![tactic(auto)]
 
 mod gate;
+mod least;
+mod lemmas;
 mod plan;
+mod program;
 mod reader;
 mod status;
 mod tables;
+#[cfg(test)]
+mod tests;
 
+pub use program::run;
 pub use status::Status;
