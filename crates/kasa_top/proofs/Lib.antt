@@ -5,3 +5,5 @@ pub mod LineLemmas
 pub mod SaidLemmas
 pub mod BuildLemmas
 pub mod NumberLemmas
+pub mod GateLemmas
+pub mod TextLemmas
