@@ -122,15 +122,15 @@ signature_is sig h types = record {
     differ = types.differ;
     few = omega (arith, length-map sig (λ (t : TypeEntry). t.name), types.few);
     are_names = λ k name e.
-      let t = some_map (λ (t : TypeEntry). t.name) (slice_get sig k) name (sym (slice_get-map (λ (t : TypeEntry). t.name) sig k) ∙ e) in
-      rw (← t.2) (IsName-gate t.0.name (each_at IsTypeLine sig k t.0 t.1 h).name);
+        let t = some_map (λ (t : TypeEntry). t.name) (slice_get sig k) name (sym (slice_get-map (λ (t : TypeEntry). t.name) sig k) ∙ e) in
+        rw (← t.2) (IsName-gate t.0.name (each_at IsTypeLine sig k t.0 t.1 h).name);
   };
   sites = λ a. record {
     differ = (sites_differ sig a types).differ;
     few = omega (arith, length-map (sites_of sig a) (λ (s : SiteEntry). s.name), (site_lines sig a h).few);
     are_names = λ k name e.
-      let s = some_map (λ (s : SiteEntry). s.name) (slice_get (sites_of sig a) k) name (sym (slice_get-map (λ (s : SiteEntry). s.name) (sites_of sig a) k) ∙ e) in
-      rw (← s.2) (IsName-gate s.0.name (each_at IsSiteLine (sites_of sig a) k s.0 s.1 (site_lines sig a h).each).name);
+        let s = some_map (λ (s : SiteEntry). s.name) (slice_get (sites_of sig a) k) name (sym (slice_get-map (λ (s : SiteEntry). s.name) (sites_of sig a) k) ∙ e) in
+        rw (← s.2) (IsName-gate s.0.name (each_at IsSiteLine (sites_of sig a) k s.0 s.1 (site_lines sig a h).each).name);
   };
   states = λ a x. record {
     differ = states_differ_at sig a x types;
@@ -170,18 +170,18 @@ gate_is l h said = record {
   few_inits = omega (arith, length-map l.inits (init_of l.types), said.inits.1);
   few_rules = omega (arith, length-map l.rules (gate_rule_of l.types), said.rules.1);
   init_types = λ i init e.
-    let a = some_map (init_of l.types) (slice_get l.inits i) init (sym (slice_get-map (init_of l.types) l.inits i) ∙ e) in
-    rw (← a.2) (agent_within l.types a.0 (each_at (IsAgentOf l.types) l.inits i a.0 a.1 said.inits.0));
+      let a = some_map (init_of l.types) (slice_get l.inits i) init (sym (slice_get-map (init_of l.types) l.inits i) ∙ e) in
+      rw (← a.2) (agent_within l.types a.0 (each_at (IsAgentOf l.types) l.inits i a.0 a.1 said.inits.0));
   init_states = λ i init e.
-    let a = some_map (init_of l.types) (slice_get l.inits i) init (sym (slice_get-map (init_of l.types) l.inits i) ∙ e) in
-    let counts = state_counts l.types (type_number l.types a.0.name) in
-    rw (← a.2)
-    (states_are counts (agent_sites_of l.types a.0) (λ x k at. (few_counts l.types (type_number l.types a.0.name) x k h at).0)
+      let a = some_map (init_of l.types) (slice_get l.inits i) init (sym (slice_get-map (init_of l.types) l.inits i) ∙ e) in
+      let counts = state_counts l.types (type_number l.types a.0.name) in
+      rw (← a.2)
+      (states_are counts (agent_sites_of l.types a.0) (λ x k at. (few_counts l.types (type_number l.types a.0.name) x k h at).0)
       (agent_sites_are l.types a.0 said.types (each_at (IsAgentOf l.types) l.inits i a.0 a.1 said.inits.0)));
   rule_types = λ k rule e.
-    let r = some_map (gate_rule_of l.types) (slice_get l.rules k) rule (sym (slice_get-map (gate_rule_of l.types) l.rules k) ∙ e) in
-    rw (← r.2) (agent_within l.types r.0.agent (each_at (λ r. IsAgentOf l.types r.agent) l.rules k r.0 r.1 said.rules.0));
+      let r = some_map (gate_rule_of l.types) (slice_get l.rules k) rule (sym (slice_get-map (gate_rule_of l.types) l.rules k) ∙ e) in
+      rw (← r.2) (agent_within l.types r.0.agent (each_at (λ r. IsAgentOf l.types r.agent) l.rules k r.0 r.1 said.rules.0));
   rule_sites = λ k rule e.
-    let r = some_map (gate_rule_of l.types) (slice_get l.rules k) rule (sym (slice_get-map (gate_rule_of l.types) l.rules k) ∙ e) in
-    rw (← r.2) (agent_sites_are l.types r.0.agent said.types (each_at (λ r. IsAgentOf l.types r.agent) l.rules k r.0 r.1 said.rules.0));
+      let r = some_map (gate_rule_of l.types) (slice_get l.rules k) rule (sym (slice_get-map (gate_rule_of l.types) l.rules k) ∙ e) in
+      rw (← r.2) (agent_sites_are l.types r.0.agent said.types (each_at (λ r. IsAgentOf l.types r.agent) l.rules k r.0 r.1 said.rules.0));
 }

@@ -2,5 +2,6 @@
 #![tactic(auto)]
 
 mod gate;
+pub mod laws;
 mod reader;
 mod tables;
