@@ -37,7 +37,7 @@ use Rattle.kasa_pre.specs.Yields.{Yields}
 use Rattle.kasa_top.specs.declared.gate.GateSite.{GateSite}
 use Rattle.kasa_top.specs.Gate.{GateRuleParts, AreGateSites, test_of, rule_of}
 use Rattle.kasa_top.specs.Rounds.{ViewParts, view_family, state_of, local_of, view_row, AreCounts, AreMarks, held_tables, AreViews, gate_site, StandsAfter, known_before, Agree, CanStandAfter, before_row, AgreesBefore, HasAgreeing, AllAgree, IsGivenBy}
-use Rattle.kasa_top.proofs.GateLemmas.{tested_within, fate_at-rule, written_state-rule, written_link-rule, agent_at-rule, link_test-rule, state_test-rule, state_test-rule_other}
+use Rattle.kasa_top.proofs.OneAgentLemmas.{tested_within, fate_at-rule, written_state-rule, written_link-rule, agent_at-rule, link_test-rule, state_test-rule, state_test-rule_other}
 use Rattle.kasa_top.proofs.RowsOver.{Has-or_not, state_of-beyond, AreChoices}
 use Rattle.kasa_top.proofs.ViewRows.{link_of, same_test, state_at-site, no_state, state_test-row, link_test-row, IsRow-row}
 use Rattle.kasa_top.proofs.HeldLemmas.{view_of_family, families_of-held, Holds-marked, are_choices}

@@ -1,322 +1,187 @@
--- What the rules and the inits of these models say at each site; such a model is a model.
-use Rattle.std.proofs.Common.{◌≡◌, ◌≢◌, ℕ, zero, suc, ◌<◌, List, [], ◌∷◌, length, map, refl, sym, ap, ◌∙◌, false, arith}
-use Rattle.std.specs.Prelude.{Option, Some, None, IsSome, slice_get, option_map, option_and_then}
+-- What the lines of a text say is a valid model.
+use Rattle.std.proofs.Common.{◌≡◌, ◌≢◌, ◌==◌, ℕ, zero, suc, ◌+◌, ◌<◌, ◌≤◌, Bool, true, false, cond, List, [], ◌∷◌, ◌++◌, length, map, take, Option, Some, None, refl, sym, ap, ◌∙◌, subst, ◌⊎◌, inl, inr, arith}
+use Rattle.std.specs.Prelude.{slice_get, option_map, unwrap_or, ⊤}
 use Rattle.std.specs.Option.{option_map_or}
-use Rattle.kasa_graph.specs.declared.mixture.Agent.{Agent}
-use Rattle.kasa_graph.specs.declared.mixture.AgentSite.{AgentSite}
-use Rattle.kasa_graph.specs.declared.pattern.StateTest.{StateTest}
-use Rattle.kasa_graph.specs.declared.pattern.StateTest.TheVariants as state
-use Rattle.kasa_graph.specs.declared.pattern.LinkTest.{LinkTest}
-use Rattle.kasa_graph.specs.declared.pattern.LinkTest.TheVariants.{Any, To, Partner}
-use Rattle.kasa_graph.specs.declared.pattern.SiteTests.{SiteTests}
-use Rattle.kasa_graph.specs.declared.pattern.Node.{Node}
-use Rattle.kasa_graph.specs.Signature.{TypeEntry, state_counts, HasState}
-use Rattle.kasa_graph.specs.Pattern.{agent_at, site_at, state_test, link_test, IsPatternOver}
-use Rattle.kasa_graph.specs.Mixture.{agent_in, type_in, site_in, state_in, partner_in, IsAgentSite, IsMixtureOver}
-use Rattle.kasa_graph.proofs.ListLemmas.{some_map, some_then}
-use Rattle.kasa_rules.specs.declared.rule.Fate.{Fate}
-use Rattle.kasa_rules.specs.declared.rule.Fate.TheVariants.{Deleted, Kept}
-use Rattle.kasa_rules.specs.declared.rule.Written.{Written}
-use Rattle.kasa_rules.specs.declared.rule.Written.TheVariants as written
-use Rattle.kasa_rules.specs.declared.rule.End.{End}
-use Rattle.kasa_rules.specs.declared.rule.End.TheVariants as «end»
-use Rattle.kasa_rules.specs.declared.rule.SiteAction.{SiteAction}
-use Rattle.kasa_rules.specs.declared.rule.NodeAction.{NodeAction}
-use Rattle.kasa_rules.specs.declared.rule.MadeAgent.{MadeAgent}
-use Rattle.kasa_rules.specs.declared.rule.MadeSite.{MadeSite}
-use Rattle.kasa_rules.specs.Rule.{RuleParts, fate_at, action_at, written_state, written_link, made_type, made_site, touched, end_link, IsRuleOver}
-use Rattle.kasa_rules.specs.Reached.{IsModel}
+use Rattle.std.specs.List.{AllByRecursion}
+use Rattle.std.specs.Str.{bytes_eq}
+use Rattle.std.proofs.lemmas.List.{length-map}
+use Rattle.std.proofs.lemmas.Option.{slice_get-map, slice_get_within, same_Some}
+use Rattle.std.proofs.lemmas.Slice.Eq.{bytes_eq-Decides}
+use Rattle.kasa_graph.specs.Lists.{Has, AllDifferent}
+use Rattle.kasa_graph.specs.Signature.{SiteEntry, TypeEntry, type_names, site_names, sites_of, state_names, state_counts, IsName, AreNames, IsSignature}
+use Rattle.kasa_graph.proofs.ListLemmas.{some_map, some_at}
 use Rattle.kasa_top.specs.declared.gate.GateSite.{GateSite}
-use Rattle.kasa_top.specs.Gate.{InitParts, GateRuleParts, GateParts, IsStateWithin, AreStates, IsGateSite, AreGateSites, IsGate, agent_sites, complex_of, test_of, left_sites, site_action, rule_of, model_of}
-use Rattle.kasa_top.specs.Rounds.{gate_site}
+use Rattle.kasa_top.specs.declared.reader.line.SiteUse.{SiteUse}
+use Rattle.kasa_top.specs.GateLines.{AgentParts, RuleLineParts, LinesParts}
+use Rattle.kasa_top.specs.Gate.{InitParts, GateRuleParts, GateParts, IsStateWithin, AreStates, IsGateSite, AreGateSites, IsGate}
+use Rattle.kasa_top.specs.GateText.{IsGateName, IsSiteLine, IsTypeLine, HaveDifferentNames, AreTypes, IsNextIn, IsUseOf, AreUsesOf, IsAgentOf, number_of, use_at, written_state, gate_site, gate_sites, type_number, agent_sites_of, init_of, gate_rule_of}
+use Rattle.kasa_top.specs.GateNumbers.{IsUseIn, AreInits, AreRules}
+use Rattle.kasa_top.proofs.BuildLemmas.{IsName-gate}
+use Rattle.kasa_top.proofs.NumberLemmas.{bytes_same, each_at, sites_differ, states_differ_at}
 
--- ---- the left node of a rule
+-- ---- names with a number
 
-states_left : (counts : List ℕ) (sites : List GateSite) (s : ℕ) → AreGateSites counts sites → option_map_or (λ (x : SiteTests). x.state) (slice_get (left_sites counts sites) s) state.Any ≡ test_of (gate_site sites s).tested
-unfolding gate_site
-states_left [] [] s ok = refl
-states_left (k ∷ counts) (x ∷ sites) zero ok = refl
-states_left (k ∷ counts) (x ∷ sites) (suc s) ok = states_left counts sites s ok.1
-states_left [] (x ∷ sites) s ok = absurd ok
-states_left (k ∷ counts) [] s ok = absurd ok
+number_within : (names : List (List ℕ)) (name : List ℕ) → Has names name → number_of name names < length names
+unfolding number_of
+number_within [] name h = absurd (let e = h.1 in cc)
+number_within (n ∷ names) name h = by (bytes_eq n name) refl h.0 h.1 (λ k at. number_within names name (k, at))
+  where
+    by : (b : Bool) → bytes_eq n name ≡ b → (k : ℕ) → slice_get (n ∷ names) k ≡ Some name → ((k : ℕ) → slice_get names k ≡ Some name → number_of name names < length names) → cond b 0 (suc (number_of name names)) < suc (length names)
+    by true e k at more = omega arith
+    by false e zero at more = absurd (let same : bytes_eq n name ≡ true = bytes_same n name (same_Some n name at) in cc)
+    by false e (suc k) at more = let less : number_of name names < length names = more k at in omega arith
 
-links_left : (counts : List ℕ) (sites : List GateSite) (s : ℕ) → option_map_or (λ (x : SiteTests). x.link) (slice_get (left_sites counts sites) s) Any ≡ Any
-links_left [] sites s = refl
-links_left (k ∷ counts) [] s = refl
-links_left (k ∷ counts) (x ∷ sites) zero = refl
-links_left (k ∷ counts) (x ∷ sites) (suc s) = links_left counts sites s
+-- ---- sites
 
-counts_left : (counts : List ℕ) (sites : List GateSite) → AreGateSites counts sites → map (λ (x : SiteTests). x.states) (left_sites counts sites) ≡ counts
-counts_left [] [] ok = refl
-counts_left (k ∷ counts) (x ∷ sites) ok = ap (λ (ks : List ℕ). k ∷ ks) (counts_left counts sites ok.1)
-counts_left [] (x ∷ sites) ok = absurd ok
-counts_left (k ∷ counts) [] ok = absurd ok
+written_within : (states : List (List ℕ)) (state : List ℕ) (next : Option (List ℕ)) → IsNextIn states next → IsStateWithin (length states) (written_state states state next)
+written_within states state None h = tt
+written_within states state (Some next) h = by (bytes_eq next state)
+  where
+    by : (b : Bool) → IsStateWithin (length states) (cond b None (Some (number_of next states)))
+    by true = tt
+    by false = number_within states next h
 
-length_sites : (counts : List ℕ) (sites : List GateSite) → AreGateSites counts sites → length (map site_action sites) ≡ length counts
-length_sites [] [] ok = refl
-length_sites (k ∷ counts) (x ∷ sites) ok = ap suc (length_sites counts sites ok.1)
-length_sites [] (x ∷ sites) ok = absurd ok
-length_sites (k ∷ counts) [] ok = absurd ok
+site_is : (states : List (List ℕ)) (o : Option SiteUse) → ((u : SiteUse) → o ≡ Some u → IsUseIn states u) → IsGateSite (length states) (gate_site states o)
+site_is states None h = record { tested = tt; written = tt; mentioned = λ e. refl }
+site_is states (Some u) h =
+    let used = h u refl in
+    record { tested = number_within states u.state used.0; written = written_within states u.state u.next used.1; mentioned = λ e. absurd cc }
 
--- a state that is tested or written at a site exists
-within_some : (k u : ℕ) (o : Option ℕ) → IsStateWithin k o → o ≡ Some u → u < k
-within_some k u (Some w) ok e = let same : w ≡ u = cc in rw (← same) ok
-within_some k u None ok e = absurd cc
+sites_are : (sites : List SiteEntry) (uses : List SiteUse) → ((x : ℕ) (s : SiteEntry) (u : SiteUse) → slice_get sites x ≡ Some s → use_at s.name uses ≡ Some u → IsUseIn s.states u) →
+    AreGateSites (map (λ s. length s.states) sites) (gate_sites sites uses)
+unfolding gate_sites
+sites_are [] uses h = tt
+sites_are (s ∷ sites) uses h = (site_is s.states (use_at s.name uses) (λ u e. h 0 s u refl e), sites_are sites uses (λ x. h (suc x)))
 
-pub tested_within : (counts : List ℕ) (sites : List GateSite) (s u : ℕ) → AreGateSites counts sites → (gate_site sites s).tested ≡ Some u → (k : ℕ) × (slice_get counts s ≡ Some k) × (u < k)
-unfolding gate_site
-tested_within [] [] s u ok e = absurd cc
-tested_within (k ∷ counts) (x ∷ sites) zero u ok e = (k, refl, within_some k u x.tested ok.0.tested e)
-tested_within (k ∷ counts) (x ∷ sites) (suc s) u ok e = tested_within counts sites s u ok.1 e
-tested_within [] (x ∷ sites) s u ok e = absurd ok
-tested_within (k ∷ counts) [] s u ok e = absurd ok
+state_within : (k : ℕ) (o : Option ℕ) → 0 < k → IsStateWithin k o → unwrap_or o 0 < k
+state_within k None some h = some
+state_within k (Some u) some h = h
 
-written_within : (counts : List ℕ) (sites : List GateSite) (s u : ℕ) → AreGateSites counts sites → (gate_site sites s).written ≡ Some u → (k : ℕ) × (slice_get counts s ≡ Some k) × (u < k)
-unfolding gate_site
-written_within [] [] s u ok e = absurd cc
-written_within (k ∷ counts) (x ∷ sites) zero u ok e = (k, refl, within_some k u x.written ok.0.written e)
-written_within (k ∷ counts) (x ∷ sites) (suc s) u ok e = written_within counts sites s u ok.1 e
-written_within [] (x ∷ sites) s u ok e = absurd ok
-written_within (k ∷ counts) [] s u ok e = absurd ok
+states_are : (counts : List ℕ) (xs : List GateSite) → ((x k : ℕ) → slice_get counts x ≡ Some k → 0 < k) → AreGateSites counts xs → AreStates counts (map (λ (x : GateSite). unwrap_or x.tested 0) xs)
+states_are [] [] some h = tt
+states_are [] (x ∷ xs) some h = absurd h
+states_are (k ∷ counts) [] some h = absurd h
+states_are (k ∷ counts) (x ∷ xs) some h = (state_within k x.tested (some 0 k refl) h.0.tested, states_are counts xs (λ i. some (suc i)) h.1)
 
-written_states : (sites : List GateSite) (s : ℕ) → option_and_then (λ (a : SiteAction). a.state) (slice_get (map site_action sites) s) ≡ (gate_site sites s).written
-unfolding gate_site
-written_states [] s = refl
-written_states (x ∷ sites) zero = refl
-written_states (x ∷ sites) (suc s) = written_states sites s
+use_at-some : (name : List ℕ) (uses : List SiteUse) (u : SiteUse) → use_at name uses ≡ Some u → (k : ℕ) × (slice_get uses k ≡ Some u) × (u.site ≡ name)
+unfolding use_at
+use_at-some name [] u h = absurd cc
+use_at-some name (y ∷ uses) u h = by (bytes_eq y.site name) refl (use_at-some name uses u) h
+  where
+    by : (b : Bool) → bytes_eq y.site name ≡ b → (use_at name uses ≡ Some u → (k : ℕ) × (slice_get uses k ≡ Some u) × (u.site ≡ name)) → cond b (Some y) (use_at name uses) ≡ Some u →
+        (k : ℕ) × (slice_get (y ∷ uses) k ≡ Some u) × (u.site ≡ name)
+    by true e more h = (0, h, ap (λ (z : SiteUse). z.site) (sym (same_Some y u h)) ∙ (bytes_eq-Decides y.site name).0 e)
+    by false e more h = let m = more h in (suc m.0, m.1, m.2)
 
-written_links : (sites : List GateSite) (s : ℕ) → option_and_then (λ (a : SiteAction). a.link) (slice_get (map site_action sites) s) ≡ None
-written_links [] s = refl
-written_links (x ∷ sites) zero = refl
-written_links (x ∷ sites) (suc s) = written_links sites s
+uses_known : (sites : List SiteEntry) (uses : List SiteUse) → AllDifferent (map (λ s. s.name) sites) → AreUsesOf sites uses → (x : ℕ) (s : SiteEntry) (u : SiteUse) → slice_get sites x ≡ Some s → use_at s.name uses ≡ Some u → IsUseIn s.states u
+uses_known sites uses differ are x s u at e =
+    let place = use_at-some s.name uses u e in
+    let used = each_at (IsUseOf sites) uses place.0 u place.1 are.each in
+    let name_at : slice_get (map (λ s. s.name) sites) x ≡ Some u.site = slice_get-map (λ (s : SiteEntry). s.name) sites x ∙ ap (option_map (λ (s : SiteEntry). s.name)) at ∙ ap (λ z. Some z) (sym place.2) in
+    let used_at : slice_get (map (λ s. s.name) sites) used.number ≡ Some u.site = slice_get-map (λ (s : SiteEntry). s.name) sites used.number ∙ ap (option_map (λ (s : SiteEntry). s.name)) used.stands ∙ ap (λ z. Some z) used.named in
+    let one : used.number ≡ x = differ used.number x u.site used_at name_at in
+    let same : used.site ≡ s = same_Some used.site s (sym used.stands ∙ ap (slice_get sites) one ∙ at) in
+    subst (λ (y : SiteEntry). IsUseIn y.states u) same (used.state, used.next)
 
-module _ (sig : List TypeEntry) (r : GateRuleParts) where
-  pub fate_at-rule : fate_at (rule_of sig r) 0 ≡ Some Kept
-  unfolding fate_at
-  fate_at-rule = refl
+-- ---- the lines of declared types
 
-  not_deleted : (n : ℕ) → fate_at (rule_of sig r) n ≢ Some Deleted
-  unfolding fate_at
-  not_deleted zero e = cc
-  not_deleted (suc n) e = cc
+record AreSiteLines (sites : List SiteEntry) : Type 0 where
+  each : AllByRecursion IsSiteLine sites
+  few : length sites ≤ 4
 
-  pub fate_at-kept : (n : ℕ) → fate_at (rule_of sig r) n ≡ Some Kept → n ≡ 0
-  unfolding fate_at
-  fate_at-kept zero e = refl
-  fate_at-kept (suc n) e = absurd cc
+site_lines : (sig : List TypeEntry) (a : ℕ) → AllByRecursion IsTypeLine sig → AreSiteLines (sites_of sig a)
+unfolding sites_of
+site_lines sig a h = by (slice_get sig a) refl
+  where
+    by : (o : Option TypeEntry) → slice_get sig a ≡ o → AreSiteLines (option_map_or (λ t. t.sites) o [])
+    by None e = record { each = tt; few = omega arith }
+    by (Some t) e = let line = each_at IsTypeLine sig a t e h in record { each = line.sites; few = line.few_sites }
 
-  pub written_state-rule : (s : ℕ) → written_state (rule_of sig r) 0 s ≡ (gate_site r.sites s).written
-  unfolding written_state action_at
-  written_state-rule s = written_states r.sites s
+record AreStateLines (states : List (List ℕ)) : Type 0 where
+  each : AllByRecursion IsGateName states
+  few : length states ≤ 8
 
-  pub written_link-rule : (n s : ℕ) → written_link (rule_of sig r) n s ≡ None
-  unfolding written_link action_at
-  written_link-rule zero s = written_links r.sites s
-  written_link-rule (suc n) s = refl
+state_lines : (sig : List TypeEntry) (a x : ℕ) → AllByRecursion IsTypeLine sig → AreStateLines (state_names sig a x)
+unfolding state_names
+state_lines sig a x h = by (slice_get (sites_of sig a) x) refl
+  where
+    by : (o : Option SiteEntry) → slice_get (sites_of sig a) x ≡ o → AreStateLines (option_map_or (λ s. s.states) o [])
+    by None e = record { each = tt; few = omega arith }
+    by (Some s) e = let line = each_at IsSiteLine (sites_of sig a) x s e (site_lines sig a h).each in record { each = line.states; few = line.few_states }
 
-  pub touched-rule : (n s : ℕ) → touched (rule_of sig r) n s ≡ false
-  unfolding touched fate_at
-  touched-rule zero s = rw (written_link-rule 0 s) refl
-  touched-rule (suc n) s = rw (written_link-rule (suc n) s) refl
+few_counts : (sig : List TypeEntry) (a x k : ℕ) → AllByRecursion IsTypeLine sig → slice_get (state_counts sig a) x ≡ Some k → (0 < k) × (k ≤ 8)
+unfolding state_counts
+few_counts sig a x k h e =
+    let s = some_map (λ (s : SiteEntry). length s.states) (slice_get (sites_of sig a) x) k (sym (slice_get-map (λ (s : SiteEntry). length s.states) (sites_of sig a) x) ∙ e) in
+    let line = each_at IsSiteLine (sites_of sig a) x s.0 s.1 (site_lines sig a h).each in
+    (rw s.2 at line.some_state, rw s.2 at line.few_states)
 
-  pub made_type-rule : (k a : ℕ) → made_type (rule_of sig r) k ≢ Some a
-  unfolding made_type
-  made_type-rule k a e = cc
+signature_is : (sig : List TypeEntry) → AllByRecursion IsTypeLine sig → AreTypes sig → IsSignature sig
+signature_is sig h types = record {
+  types = record {
+    differ = types.differ;
+    few = omega (arith, length-map sig (λ (t : TypeEntry). t.name), types.few);
+    are_names = λ k name e.
+        let t = some_map (λ (t : TypeEntry). t.name) (slice_get sig k) name (sym (slice_get-map (λ (t : TypeEntry). t.name) sig k) ∙ e) in
+        rw (← t.2) (IsName-gate t.0.name (each_at IsTypeLine sig k t.0 t.1 h).name);
+  };
+  sites = λ a. record {
+    differ = (sites_differ sig a types).differ;
+    few = omega (arith, length-map (sites_of sig a) (λ (s : SiteEntry). s.name), (site_lines sig a h).few);
+    are_names = λ k name e.
+        let s = some_map (λ (s : SiteEntry). s.name) (slice_get (sites_of sig a) k) name (sym (slice_get-map (λ (s : SiteEntry). s.name) (sites_of sig a) k) ∙ e) in
+        rw (← s.2) (IsName-gate s.0.name (each_at IsSiteLine (sites_of sig a) k s.0 s.1 (site_lines sig a h).each).name);
+  };
+  states = λ a x. record {
+    differ = states_differ_at sig a x types;
+    few = omega (arith, (state_lines sig a x h).few);
+    are_names = λ k name e. IsName-gate name (each_at IsGateName (state_names sig a x) k name e (state_lines sig a x h).each);
+  };
+}
 
-  pub agent_at-rule : agent_at (rule_of sig r).left 0 ≡ Some r.agent
-  unfolding agent_at
-  agent_at-rule = refl
+-- ---- agents, inits and rules
 
-  pub agent_at-rule_only : (n a : ℕ) → agent_at (rule_of sig r).left n ≡ Some a → (n ≡ 0) × (a ≡ r.agent)
-  unfolding agent_at
-  agent_at-rule_only zero a e = (refl, cc)
-  agent_at-rule_only (suc n) a e = absurd cc
+agent_within : (sig : List TypeEntry) (a : AgentParts) → IsAgentOf sig a → type_number sig a.name < length sig
+agent_within sig a h =
+    let less : type_number sig a.name < length (map (λ (t : TypeEntry). t.name) sig) = number_within (map (λ (t : TypeEntry). t.name) sig) a.name h.declared in
+    omega (arith, less, length-map sig (λ (t : TypeEntry). t.name))
 
-  pub link_test-rule : (n s : ℕ) → link_test (rule_of sig r).left n s ≡ Any
-  unfolding link_test site_at
-  link_test-rule zero s = links_left (state_counts sig r.agent) r.sites s
-  link_test-rule (suc n) s = refl
+agent_sites_are : (sig : List TypeEntry) (a : AgentParts) → AreTypes sig → IsAgentOf sig a → AreGateSites (state_counts sig (type_number sig a.name)) (agent_sites_of sig a)
+unfolding state_counts
+agent_sites_are sig a types h =
+    let n = type_number sig a.name in
+    sites_are (sites_of sig n) a.sites (uses_known (sites_of sig n) a.sites (sites_differ sig n types).differ h.sites)
 
-  pub state_test-rule_other : (n s : ℕ) → state_test (rule_of sig r).left (suc n) s ≡ state.Any
-  unfolding state_test site_at
-  state_test-rule_other n s = refl
+-- what lines declare, and the model that they say
+pub record AreSaid (l : LinesParts) : Type 0 where
+  pub types : AreTypes l.types
+  pub inits : AreInits l.types l.inits
+  pub rules : AreRules l.types l.rules
 
-  module _ (typed : r.agent < length sig) (ok : AreGateSites (state_counts sig r.agent) r.sites) where
-    pub state_test-rule : (s : ℕ) → state_test (rule_of sig r).left 0 s ≡ test_of (gate_site r.sites s).tested
-    unfolding state_test site_at
-    state_test-rule s = states_left (state_counts sig r.agent) r.sites s ok
+abbrev pub gate_said : LinesParts → GateParts
+gate_said l = record { sig = l.types; inits = map (init_of l.types) l.inits; rules = map (gate_rule_of l.types) l.rules }
 
-    no_bond : (n s m t : ℕ) → link_test (rule_of sig r).left n s ≢ To m t
-    no_bond n s m t e = let f = link_test-rule n s in cc
-
-    tested_state : (o : Option ℕ) (u : ℕ) → test_of o ≡ state.Is u → o ≡ Some u
-    tested_state None u e = absurd cc
-    tested_state (Some w) u e = cc
-
-    has_state : (n s u a : ℕ) → agent_at (rule_of sig r).left n ≡ Some a → state_test (rule_of sig r).left n s ≡ state.Is u → HasState sig a s u
-    has_state zero s u a e f =
-        let same : a ≡ r.agent = (agent_at-rule_only 0 a e).1 in
-        rw same (tested_within (state_counts sig r.agent) r.sites s u ok (tested_state (gate_site r.sites s).tested u (sym (state_test-rule s) ∙ f)))
-    has_state (suc n) s u a e f = absurd (let g = state_test-rule_other n s in cc)
-
-    left_types : (n : ℕ) (node : Node) → slice_get (rule_of sig r).left n ≡ Some node → node.agent < length sig
-    left_types zero node e = let same : r.agent ≡ node.agent = ap (λ (o : Option Node). option_map_or (λ (x : Node). x.agent) o 0) e in rw (← same) typed
-    left_types (suc n) node e = absurd cc
-
-    left_counts : (n : ℕ) (node : Node) → slice_get (rule_of sig r).left n ≡ Some node → map (λ (x : SiteTests). x.states) node.sites ≡ state_counts sig node.agent
-    left_counts zero node e = let same : record { agent = r.agent; sites = left_sites (state_counts sig r.agent) r.sites } ≡ node = cc in rw (← same) (counts_left (state_counts sig r.agent) r.sites ok)
-    left_counts (suc n) node e = absurd cc
-
-    left_over : IsPatternOver sig (rule_of sig r).left
-    left_over = record {
-      linked = record { both_ways = λ n s m t e. absurd (no_bond n s m t e); apart = λ n s. no_bond n s n s };
-      types = left_types;
-      sites = left_counts;
-      states = has_state;
-      partners = λ n s b y e. absurd (let f = link_test-rule n s in cc);
-    }
-
-    no_end_link : (e : End) (s : ℕ) (w : Written) → end_link (rule_of sig r) e s ≢ Some w
-    unfolding made_site
-    no_end_link («end».Left n) s w e = let f = written_link-rule n s in cc
-    no_end_link («end».Made k) s w e = cc
-
-    no_made_site : (k s : ℕ) (x : MadeSite) → made_site (rule_of sig r) k s ≢ Some x
-    unfolding made_site
-    no_made_site k s x e = cc
-
-    action_sites : (n a : ℕ) (x : NodeAction) → slice_get (rule_of sig r).actions n ≡ Some x → agent_at (rule_of sig r).left n ≡ Some a → length x.sites ≡ length (state_counts sig a)
-    action_sites zero a x e f =
-        let same : record { fate = Kept; sites = map site_action r.sites } ≡ x = cc in
-        let of_type : a ≡ r.agent = (agent_at-rule_only 0 a f).1 in
-        rw (← same, of_type) (length_sites (state_counts sig r.agent) r.sites ok)
-    action_sites (suc n) a x e f = absurd cc
-
-    has_written : (n s u a : ℕ) → agent_at (rule_of sig r).left n ≡ Some a → written_state (rule_of sig r) n s ≡ Some u → HasState sig a s u
-    has_written zero s u a e f =
-        let same : a ≡ r.agent = (agent_at-rule_only 0 a e).1 in
-        rw same (written_within (state_counts sig r.agent) r.sites s u ok (sym (written_state-rule s) ∙ f))
-    has_written (suc n) s u a e f = absurd (let g = (agent_at-rule_only (suc n) a e).0 in cc)
-
-    pub IsRuleOver-rule : IsRuleOver sig (rule_of sig r)
-    IsRuleOver-rule = record {
-      is_rule = record {
-        left = left_over.linked;
-        actions = refl;
-        deleted_state = λ n s e. absurd (not_deleted n e);
-        deleted_link = λ n s e. absurd (not_deleted n e);
-        both_ways = λ e f s t h. absurd (no_end_link e s (written.To f t) h);
-        apart = λ e s. no_end_link e s (written.To e s);
-        whole_bonds = λ n s m t e. absurd (no_bond n s m t e);
-      };
-      left = left_over;
-      action_sites = action_sites;
-      written_states = has_written;
-      made_types = λ k a e. absurd (made_type-rule k a e);
-      made_sites = λ k x e. absurd cc;
-      made_within = λ k s u x e f. absurd (no_made_site k s x e);
-      made_given = λ k s x e h. absurd (no_made_site k s x e);
-    }
-
--- ---- the agent of an init
-
-states_init : (counts states : List ℕ) (s : ℕ) → AreStates counts states → option_and_then (λ (x : AgentSite). x.state) (slice_get (agent_sites counts states) s) ≡ slice_get states s
-states_init [] [] s ok = refl
-states_init (k ∷ counts) (u ∷ states) zero ok = refl
-states_init (k ∷ counts) (u ∷ states) (suc s) ok = states_init counts states s ok.1
-states_init [] (u ∷ states) s ok = absurd ok
-states_init (k ∷ counts) [] s ok = absurd ok
-
-no_partner : (counts states : List ℕ) (s : ℕ) → option_and_then (λ (x : AgentSite). x.partner) (slice_get (agent_sites counts states) s) ≡ None
-no_partner [] states s = refl
-no_partner (k ∷ counts) [] s = refl
-no_partner (k ∷ counts) (u ∷ states) zero = refl
-no_partner (k ∷ counts) (u ∷ states) (suc s) = no_partner counts states s
-
-counts_init : (counts states : List ℕ) → AreStates counts states → map (λ (x : AgentSite). x.states) (agent_sites counts states) ≡ counts
-counts_init [] [] ok = refl
-counts_init (k ∷ counts) (u ∷ states) ok = ap (λ (ks : List ℕ). k ∷ ks) (counts_init counts states ok.1)
-counts_init [] (u ∷ states) ok = absurd ok
-counts_init (k ∷ counts) [] ok = absurd ok
-
-sites_init : (counts states : List ℕ) (s : ℕ) (x : AgentSite) → AreStates counts states → slice_get (agent_sites counts states) s ≡ Some x → IsAgentSite x
-sites_init [] states s x ok e = absurd cc
-sites_init (k ∷ counts) [] s x ok e = absurd cc
-sites_init (k ∷ counts) (u ∷ states) zero x ok e =
-    let same : record { states = k; state = Some u; partner = None } ≡ x = cc in
-    rw (← same) (record { within = λ w f. let is : u ≡ w = cc in rw (← is) ok.0; given = λ h. refl })
-sites_init (k ∷ counts) (u ∷ states) (suc s) x ok e = sites_init counts states s x ok.1 e
-
-module _ (sig : List TypeEntry) (init : InitParts) where
-  abbrev agent_of : Agent
-  agent_of = record { agent = init.agent; sites = agent_sites (state_counts sig init.agent) init.states }
-
-  pub type_in-complex : (c a : ℕ) → type_in (complex_of sig init) c ≡ Some a → (c ≡ 0) × (a ≡ init.agent)
-  unfolding type_in agent_in
-  type_in-complex zero a e = (refl, cc)
-  type_in-complex (suc c) a e = absurd cc
-
-  pub type_in-complex_first : type_in (complex_of sig init) 0 ≡ Some init.agent
-  unfolding type_in agent_in
-  type_in-complex_first = refl
-
-  pub partner_in-complex : (c s : ℕ) → partner_in (complex_of sig init) c s ≡ None
-  unfolding partner_in site_in agent_in
-  partner_in-complex zero s = no_partner (state_counts sig init.agent) init.states s
-  partner_in-complex (suc c) s = refl
-
-  the_agent : (c : ℕ) (a : Agent) → agent_in (complex_of sig init) c ≡ Some a → agent_of ≡ a
-  unfolding agent_in
-  the_agent zero a e = cc
-  the_agent (suc c) a e = absurd cc
-
-  module _ (typed : init.agent < length sig) (ok : AreStates (state_counts sig init.agent) init.states) where
-    pub state_in-complex : (s : ℕ) → state_in (complex_of sig init) 0 s ≡ slice_get init.states s
-    unfolding state_in site_in agent_in
-    state_in-complex s = states_init (state_counts sig init.agent) init.states s ok
-
-    sites_ok : (c s : ℕ) (x : AgentSite) → site_in (complex_of sig init) c s ≡ Some x → IsAgentSite x
-    unfolding site_in agent_in
-    sites_ok zero s x e = sites_init (state_counts sig init.agent) init.states s x ok e
-    sites_ok (suc c) s x e = absurd cc
-
-    pub IsMixtureOver-complex : IsMixtureOver sig (complex_of sig init)
-    IsMixtureOver-complex = record {
-      linked = record { both_ways = λ c s d t e. absurd (let f = partner_in-complex c s in cc); apart = λ c s e. let f = partner_in-complex c s in cc };
-      types = λ c a e. let same = the_agent c a e in rw (← same) typed;
-      sites = λ c a e. let same = the_agent c a e in rw (← same) (counts_init (state_counts sig init.agent) init.states ok);
-      states = sites_ok;
-    }
-
--- ---- the model
-
-pub init_of : (sig : List TypeEntry) (inits : List InitParts) (i : ℕ) (m : List (Option Agent)) → slice_get (map (complex_of sig) inits) i ≡ Some m → (init : InitParts) × (slice_get inits i ≡ Some init) × (m ≡ complex_of sig init)
-init_of sig [] i m e = absurd cc
-init_of sig (x ∷ inits) zero m e = (x, refl, cc)
-init_of sig (x ∷ inits) (suc i) m e = init_of sig inits i m e
-
-pub rule_from : (sig : List TypeEntry) (rules : List GateRuleParts) (k : ℕ) (r : RuleParts) → slice_get (map (rule_of sig) rules) k ≡ Some r → (x : GateRuleParts) × (slice_get rules k ≡ Some x) × (r ≡ rule_of sig x)
-rule_from sig [] k r e = absurd cc
-rule_from sig (x ∷ rules) zero r e = (x, refl, cc)
-rule_from sig (x ∷ rules) (suc k) r e = rule_from sig rules k r e
-
-pub init_at : (sig : List TypeEntry) (inits : List InitParts) (i : ℕ) (init : InitParts) → slice_get inits i ≡ Some init → slice_get (map (complex_of sig) inits) i ≡ Some (complex_of sig init)
-init_at sig [] i init e = absurd cc
-init_at sig (x ∷ inits) zero init e = let same : x ≡ init = cc in rw same refl
-init_at sig (x ∷ inits) (suc i) init e = init_at sig inits i init e
-
-pub rule_at : (sig : List TypeEntry) (rules : List GateRuleParts) (k : ℕ) (r : GateRuleParts) → slice_get rules k ≡ Some r → slice_get (map (rule_of sig) rules) k ≡ Some (rule_of sig r)
-rule_at sig [] k r e = absurd cc
-rule_at sig (x ∷ rules) zero r e = let same : x ≡ r = cc in rw same refl
-rule_at sig (x ∷ rules) (suc k) r e = rule_at sig rules k r e
-
--- a valid model of this kind is a model
-pub IsModel-gate : (gate : GateParts) → IsGate gate → IsModel (model_of gate)
-IsModel-gate gate ok = record {
-  inits = λ i m e.
-      let init = init_of gate.sig gate.inits i m e in
-      rw init.2 (IsMixtureOver-complex gate.sig init.0 (ok.init_types i init.0 init.1) (ok.init_states i init.0 init.1));
-  rules = λ k r e.
-      let rule = rule_from gate.sig gate.rules k r e in
-      rw rule.2 (IsRuleOver-rule gate.sig rule.0 (ok.rule_types k rule.0 rule.1) (ok.rule_sites k rule.0 rule.1));
+pub gate_is : (l : LinesParts) → AllByRecursion IsTypeLine l.types → AreSaid l → IsGate (gate_said l)
+gate_is l h said = record {
+  signature = signature_is l.types h said.types;
+  few_types = said.types.few;
+  few_sites = λ a. (site_lines l.types a h).few;
+  few_states = λ a x k e. few_counts l.types a x k h e;
+  few_inits = omega (arith, length-map l.inits (init_of l.types), said.inits.1);
+  few_rules = omega (arith, length-map l.rules (gate_rule_of l.types), said.rules.1);
+  init_types = λ i init e.
+      let a = some_map (init_of l.types) (slice_get l.inits i) init (sym (slice_get-map (init_of l.types) l.inits i) ∙ e) in
+      rw (← a.2) (agent_within l.types a.0 (each_at (IsAgentOf l.types) l.inits i a.0 a.1 said.inits.0));
+  init_states = λ i init e.
+      let a = some_map (init_of l.types) (slice_get l.inits i) init (sym (slice_get-map (init_of l.types) l.inits i) ∙ e) in
+      let counts = state_counts l.types (type_number l.types a.0.name) in
+      rw (← a.2)
+      (states_are counts (agent_sites_of l.types a.0) (λ x k at. (few_counts l.types (type_number l.types a.0.name) x k h at).0)
+      (agent_sites_are l.types a.0 said.types (each_at (IsAgentOf l.types) l.inits i a.0 a.1 said.inits.0)));
+  rule_types = λ k rule e.
+      let r = some_map (gate_rule_of l.types) (slice_get l.rules k) rule (sym (slice_get-map (gate_rule_of l.types) l.rules k) ∙ e) in
+      rw (← r.2) (agent_within l.types r.0.agent (each_at (λ r. IsAgentOf l.types r.agent) l.rules k r.0 r.1 said.rules.0));
+  rule_sites = λ k rule e.
+      let r = some_map (gate_rule_of l.types) (slice_get l.rules k) rule (sym (slice_get-map (gate_rule_of l.types) l.rules k) ∙ e) in
+      rw (← r.2) (agent_sites_are l.types r.0.agent said.types (each_at (λ r. IsAgentOf l.types r.agent) l.rules k r.0 r.1 said.rules.0));
 }

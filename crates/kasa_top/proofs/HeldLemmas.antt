@@ -17,7 +17,7 @@ use Rattle.kasa_families.specs.Table.{Table, families_of, AreTables, Holds}
 use Rattle.kasa_top.specs.Rounds.{ViewParts, view_family, view_row, AreMarks, held_rows, held_table, held_tables, AreViews, IsComplete}
 use Rattle.kasa_top.proofs.RowsOver.{AreChoices, rows_over-are, rows_over-rise, Rising, Precedes}
 use Rattle.kasa_top.proofs.ViewRows.{IsRow-row, IsRowBelow-precedes}
-use Rattle.kasa_top.specs.Least.{AreAscending}
+use Rattle.kasa_families.specs.Row.{AreAscending}
 
 -- ---- the rows that are held of a view
 

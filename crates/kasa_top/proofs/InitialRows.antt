@@ -25,7 +25,7 @@ use Rattle.kasa_families.proofs.RowTests.{AllDifferent-ascends}
 use Rattle.kasa_families.proofs.RowPattern.{types_of-view, link_test-view}
 use Rattle.kasa_top.specs.Gate.{InitParts, AreStates, test_of, complex_of}
 use Rattle.kasa_top.specs.Rounds.{state_of, local_of, view_row, AreCounts, rows_over, IsRowOf}
-use Rattle.kasa_top.proofs.GateLemmas.{type_in-complex, type_in-complex_first, partner_in-complex, state_in-complex}
+use Rattle.kasa_top.proofs.OneAgentLemmas.{type_in-complex, type_in-complex_first, partner_in-complex, state_in-complex}
 use Rattle.kasa_top.proofs.RowsOver.{AreChoices}
 use Rattle.kasa_top.proofs.ViewRows.{link_of, state_test-row, link_test-row, AreFreeLinks, row_among}
 use Rattle.kasa_top.proofs.YieldedRows.{site_with}

@@ -1,5 +1,5 @@
+pub mod OneAgentLemmas
 pub mod GateRules
-pub mod GateModel
 pub mod PlanLists
 pub mod PlanSteps
 pub mod ViewOrder
@@ -10,8 +10,9 @@ pub mod LineLemmas
 pub mod SaidLemmas
 pub mod BuildLemmas
 pub mod NumberLemmas
-pub mod BeforeRow
 pub mod GateLemmas
+pub mod TextLemmas
+pub mod BeforeRow
 pub mod HeldLemmas
 pub mod InitialRows
 pub mod RoundLemmas

@@ -19,10 +19,10 @@ use Rattle.kasa_rules.specs.Rule.{RuleParts}
 use Rattle.kasa_pre.specs.Yields.{Yields}
 use Rattle.kasa_pre.specs.Closed.{IsInitial, IsYielded, IsClosed, IsLeast}
 use Rattle.kasa_pre.proofs.AllowedLemmas.{IsAllowed-within}
-use Rattle.kasa_top.specs.Least.{AreAscending}
+use Rattle.kasa_families.specs.Row.{AreAscending}
 use Rattle.kasa_top.specs.Gate.{InitParts, GateRuleParts, GateParts, AreGateSites, IsGate, complex_of, rule_of, model_of}
 use Rattle.kasa_top.specs.Rounds.{ViewParts, view_family, view_row, AreCounts, rows_over, AreMarks, AreComplete, held_tables, with_mark, unmarked, all_unmarked, CanStandAfter, AllAgree, IsGivenBy, IsRowOf, IsGiven, AreViews, IsForced, IsStep, IsSettledAt, IsSettled}
-use Rattle.kasa_top.proofs.GateLemmas.{init_of, rule_from, init_at, rule_at}
+use Rattle.kasa_top.proofs.OneAgentLemmas.{init_of, rule_from, init_at, rule_at}
 use Rattle.kasa_top.proofs.RowsOver.{AreChoices}
 use Rattle.kasa_top.proofs.SiteLemmas.{one_more, mark_at}
 use Rattle.kasa_top.proofs.ViewRows.{IsRow-row}

@@ -39,7 +39,7 @@ use Rattle.kasa_pre.proofs.RowPlace.{through, IsPlace-through, places, places-fr
 use Rattle.kasa_pre.proofs.SameRow.{same_row}
 use Rattle.kasa_top.specs.Gate.{GateRuleParts, AreGateSites, test_of, rule_of}
 use Rattle.kasa_top.specs.Rounds.{ViewParts, view_family, state_of, local_of, view_row, AreCounts, AreMarks, held_tables, AreViews, rows_over, gate_site, StandsAfter, known_before, Agree, before_row, AgreesBefore, HasAgreeing, IsGivenBy}
-use Rattle.kasa_top.proofs.GateLemmas.{fate_at-rule, written_state-rule, written_link-rule, touched-rule, made_type-rule, agent_at-rule_only, link_test-rule, state_test-rule}
+use Rattle.kasa_top.proofs.OneAgentLemmas.{fate_at-rule, written_state-rule, written_link-rule, touched-rule, made_type-rule, agent_at-rule_only, link_test-rule, state_test-rule}
 use Rattle.kasa_top.proofs.RowsOver.{Has-or_not, AreChoices}
 use Rattle.kasa_top.proofs.ViewRows.{no_state, state_test-row, AreFreeLinks, row_among}
 use Rattle.kasa_top.proofs.HeldLemmas.{IsHeld, IsHeld-holds, families_of-held, one_view, are_choices, AreTables-held}

@@ -9,7 +9,6 @@ pub mod GateText
 pub mod GateReading
 pub mod GateNumbers
 pub mod Rounds
-pub mod Least
 pub mod LemmasText
 pub mod Outcome
 pub mod Fetched

@@ -8,7 +8,7 @@ ghost use Rattle.kasa_families.specs.Family.{IsFamily};
 ghost use Rattle.kasa_families.specs.Table.{Table, AreTables, families_of};
 ghost use Rattle.kasa_pre.specs.Closed.{IsClosed, IsLeast};
 ghost use Rattle.kasa_top.specs.Gate.{IsGate, model_of};
-ghost use Rattle.kasa_top.specs.Least.{AreAscending};
+ghost use Rattle.kasa_families.specs.Row.{AreAscending};
 ghost use Rattle.kasa_top.specs.Rounds.{view_family, IsView, state_of, view_row, AreCounts, rows_after, rows_over, IsComplete, AreComplete, AreMarks, held_rows, held_table, held_tables, with_mark, gate_site, StandsAfter, known_before, Agree, CanStandAfter, AgreesBefore, HasAgreeing, AllAgree, IsGivenBy, IsGivenByRule, IsRowOf, IsInInit, IsGiven, AreViews, IsForced, IsStep, IsSettledAt, IsSettled, ViewParts};
 
 use crate::gate::{GateInit, GateModel, GateRule, GateSite};

@@ -3,7 +3,7 @@ ghost use Rattle.std.specs.Prelude.{◌≡◌, ◌<◌, ◌≤◌, ◌++◌, ◌
 ghost use Rattle.std.specs.List.{AllByRecursion};
 ghost use Rattle.kasa_graph.specs.Lists.{AllDifferent};
 ghost use Rattle.kasa_graph.specs.Signature.{sites_of, state_names, HasSite};
-ghost use Rattle.kasa_top.specs.GateText.{IsGateName, IsSiteLine, IsTypeLine, HaveDifferentNames, AreTypes, IsUseOf, AreUsesOf, IsAgentOf, type_number, agent_sites_of, gate_sites, gate_site, init_of, gate_rule_of};
+ghost use Rattle.kasa_top.specs.GateText.{IsGateName, IsSiteLine, IsTypeLine, HaveDifferentNames, AreTypes, IsUseOf, AreUsesOf, IsAgentOf, type_number, agent_sites_of, gate_sites, gate_site, init_of, gate_rule_of, IsGateText, IsGateTextOf};
 ghost use Rattle.kasa_top.specs.GateNumbers.{IsNewType, IsNewSite, with_new_sites, with_new_states, IsUseIn, SaysMore, IsSaid, AreInits, AreRules};
 
 mod line;
@@ -19,6 +19,7 @@ use std::alloc::Global;
 /// The model of a text, None where the text is none of a model.
 pub fn read_gate(alloc: Global, text: &[u8]) -> Result<Option<GateModel>, NoMemory>
     requires { length text.now ≤ 4194304 }
+    ensures { IfOk result (λ m. MatchOption m (¬ IsGateText text.now) (λ gate. IsGateTextOf text.now gate)) }
 {
     let Some(lines) = lines_of(alloc, text)? else {
         return Ok(None);
