@@ -6,7 +6,7 @@ use Rattle.kasa_graph.specs.declared.mixture.Agent.{Agent}
 use Rattle.kasa_graph.specs.declared.mixture.AgentSite.{AgentSite}
 use Rattle.kasa_graph.specs.Signature.{TypeEntry}
 use Rattle.kasa_graph.specs.Signature.{state_counts}
-use Rattle.kasa_graph.specs.Mixture.{agent_in, site_in, partner_in, HasAgentSite, IsMixture, first_site, first_agent, change_site, with_agent_site, with_agent_state, with_partner, with_joined}
+use Rattle.kasa_graph.specs.Mixture.{agent_in, type_in, site_in, partner_in, HasAgentSite, IsMixture, first_site, first_agent, change_site, with_agent_site, with_agent_state, with_partner, with_joined}
 use Rattle.kasa_graph.proofs.ListLemmas.{some_then, slice_get-update_same, slice_get-update_other, slice_set-update, update-same}
 use Rattle.kasa_graph.proofs.PatternLemmas.{same_site_or_not}
 
@@ -28,6 +28,15 @@ cell_at m c a is = by_cell (slice_get m c) is
     by_cell : (o : Option (Option Agent)) → option_and_then (λ (cell : Option Agent). cell) o ≡ Some a → o ≡ Some (Some a)
     by_cell None e = absurd cc
     by_cell (Some cell) e = ap (λ (x : Option Agent). Some x) e
+
+-- a cell of a type is living
+pub living_of_type : (m : List (Option Agent)) (c : ℕ) → IsSome (type_in m c) → IsSome (agent_in m c)
+unfolding type_in
+living_of_type m c typed = by_agent (agent_in m c) typed
+  where
+    by_agent : (o : Option Agent) → IsSome (option_map (λ (a : Agent). a.agent) o) → IsSome o
+    by_agent None some = some
+    by_agent (Some a) some = refl
 
 -- the agent with a site
 pub has_agent : (m : List (Option Agent)) (c s : ℕ) (x : AgentSite) → site_in m c s ≡ Some x → (a : Agent) × (agent_in m c ≡ Some a) × (slice_get a.sites s ≡ Some x)

@@ -12,3 +12,5 @@ pub mod JoinedLemmas
 pub mod SignatureLemmas
 pub mod NameLemmas
 pub mod NewNameLemmas
+pub mod BondLemmas
+pub mod TextLemmas

@@ -1,5 +1,5 @@
 // Mixtures: cells with agents whose sites have states and partners.
-ghost use Rattle.std.specs.Prelude.{◌≡◌, ◌≢◌, ℕ, ◌+◌, ◌<◌, ◌≤◌, ◌^◌, [], ◌∷◌, ◌++◌, length, map, Option, Some, None, IsSome, IfOk, OnErr, slice_get, slice_set};
+ghost use Rattle.std.specs.Prelude.{◌≡◌, ◌≢◌, ℕ, ◌+◌, ◌<◌, ◌≤◌, ◌^◌, [], ◌∷◌, ◌++◌, length, map, Option, Some, None, IsSome, IsTrue, IfOk, OnErr, slice_get, slice_set};
 ghost use Rattle.std.specs.Option.{option_copied};
 ghost use Rattle.kasa_graph.specs.Lists.{update};
 ghost use Rattle.kasa_graph.specs.Signature.{state_counts};
@@ -292,9 +292,19 @@ impl Mixture {
 
     /// Empties a living cell; the partners of its sites become free.
     pub fn remove(&mut self, cell: u32)
-        requires { IsSome (agent_in self.old cell) }
+        requires { IsSome (type_in self.old cell) }
         ensures { self.new ≡ removed self.old cell }
     {
         remove_agent(&mut self.cells, cell as usize);
+    }
+}
+
+#[cfg(test)]
+impl Mixture {
+    // A living cell has the site.
+    pub(crate) fn has_site(&self, cell: u32, site: SiteNo) -> bool
+        ensures { IsTrue result → HasAgentSite self.now cell site }
+    {
+        site_at(&self.cells, cell as usize, site.0 as usize).is_some()
     }
 }

@@ -2,6 +2,8 @@
 use Rattle.std.proofs.Common.{◌≡◌, ℕ, ◌<◌, refl, ◌∙◌, length, true}
 use Rattle.std.specs.Prelude.{Option, Some, None, IsSome, is_some, slice_get, slice_index_or, option_and_then}
 use Rattle.std.proofs.lemmas.Option.{slice_get_within, get_or_from_slice_get, slice_get-get_or}
+use Rattle.kasa_graph.proofs.ListLemmas.{some_map}
+use Rattle.kasa_rules.specs.declared.rule.Fate.{Fate}
 use Rattle.kasa_rules.specs.declared.rule.Fate.TheVariants.{Deleted, Kept}
 use Rattle.kasa_rules.specs.declared.rule.SiteAction.{SiteAction}
 use Rattle.kasa_rules.specs.declared.rule.NodeAction.{NodeAction}
@@ -14,6 +16,10 @@ use Rattle.kasa_rules.specs.Rule.{RuleParts, fate_at, action_at, written_state, 
 pub fate_at-of : (r : RuleParts) (n : ℕ) (x : NodeAction) → slice_get r.actions n ≡ Some x → fate_at r n ≡ Some x.fate
 unfolding fate_at
 fate_at-of r n x e = rw e refl
+
+pub fate_bound : (r : RuleParts) (n : ℕ) (f : Fate) → fate_at r n ≡ Some f → n < length r.actions
+unfolding fate_at
+fate_bound r n f e = let x = some_map (λ (x : NodeAction). x.fate) (slice_get r.actions n) f e in slice_get_within r.actions n x.0 x.1
 
 pub action_at-is : (r : RuleParts) (n s : ℕ) → action_at r n s ≡ option_and_then (λ (x : NodeAction). slice_get x.sites s) (slice_get r.actions n)
 unfolding action_at

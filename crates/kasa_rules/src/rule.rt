@@ -1,10 +1,14 @@
 // Rules: what they test, delete, write and create.
-ghost use Rattle.std.specs.Prelude.{◌≡◌, ◌<◌, ◌≤◌, length, Some, IsSome, slice_get, option_and_then};
+ghost use Rattle.std.specs.Prelude.{◌≡◌, ◌<◌, ◌≤◌, length, Some, IsSome, IfOk, is_some, map, replicate, slice_get, option_map, option_and_then};
+ghost use Rattle.kasa_graph.specs.Lists.{update};
+ghost use Rattle.kasa_graph.specs.Signature.{state_counts};
 ghost use Rattle.kasa_graph.specs.Pattern.{HasNodeSite};
-ghost use Rattle.kasa_rules.specs.Rule.{fate_at, written_state, written_link, made_type, made_site, made_state, made_link, touched};
+ghost use Rattle.kasa_rules.specs.Draft.{no_action, first_state, new_site};
+ghost use Rattle.kasa_rules.specs.Rule.{fate_at, written_state, written_link, made_type, made_site, made_state, made_link, touches, touched};
 
-use kasa_graph::Pattern;
-use kasa_num::{AgentType, Name, NodeNo, SiteNo, StateNo};
+use kasa_graph::{Pattern, Signature};
+use kasa_num::{AgentType, Name, NoMemory, NodeNo, SiteNo, StateNo};
+use std::alloc::Global;
 use std::marker;
 
 /// What becomes of a left node.
@@ -51,6 +55,50 @@ impl marker::Model for SiteActions {
 }
 
 impl SiteActions {
+    // Nothing is written at so many sites.
+    pub(crate) fn none(alloc: Global, count: usize) -> Result<SiteActions, NoMemory>
+        ensures { IfOk result (λ sites. sites ≡ replicate count no_action) }
+    {
+        let mut items = Vec::new(alloc);
+        for _ in 0..count {
+            items.push(SiteAction {
+                state: None,
+                link: None,
+            })?;
+        }
+        Ok(SiteActions { items })
+    }
+
+    pub(crate) fn len(&self) -> usize
+        ensures { result ≡ length self.now }
+    {
+        self.items.len()
+    }
+
+    // Whether a link is written at a site.
+    pub(crate) fn has_link(&self, site: usize) -> bool
+        ensures { result ≡ is_some (option_and_then (λ x. x.link) (slice_get self.now site)) }
+    {
+        match self.items.get(site) {
+            None => false,
+            Some(action) => action.link.is_some(),
+        }
+    }
+
+    pub(crate) fn set_state(&mut self, site: usize, state: StateNo)
+        requires { site < length self.old }
+        ensures { self.new ≡ update self.old site (λ x. record x { state = Some state }) }
+    {
+        self.items[site].state = Some(state);
+    }
+
+    pub(crate) fn set_link(&mut self, site: usize, link: Written)
+        requires { site < length self.old }
+        ensures { self.new ≡ update self.old site (λ x. record x { link = Some link }) }
+    {
+        self.items[site].link = Some(link);
+    }
+
     fn get(&self, site: usize) -> Option<SiteAction>
         ensures { result ≡ slice_get self.now site }
     {
@@ -88,7 +136,48 @@ impl marker::Model for MadeSites {
     ghost view = { λ a. a.items.items };
 }
 
+// The first of so many states.
+fn first_of(states: u8) -> Option<StateNo>
+    ensures { result ≡ first_state states }
+{
+    if states == 0 { None } else { Some(StateNo(0)) }
+}
+
 impl MadeSites {
+    // The sites of a type, free, each in the first of its states.
+    pub(crate) fn first(
+        alloc: Global,
+        sig: &Signature,
+        agent: AgentType,
+    ) -> Result<MadeSites, NoMemory>
+        ensures { IfOk result (λ sites. sites ≡ map new_site (state_counts sig.now agent)) }
+    {
+        let mut items = Vec::new(alloc);
+        for site in 0..sig.sites(agent) {
+            let states = sig.states(agent, SiteNo(site as u8)) as u8;
+            items.push(MadeSite {
+                states,
+                state: first_of(states),
+                link: Written::Free,
+            })?;
+        }
+        Ok(MadeSites { items })
+    }
+
+    pub(crate) fn set_state(&mut self, site: usize, state: StateNo)
+        requires { site < length self.old }
+        ensures { self.new ≡ update self.old site (λ x. record x { state = Some state }) }
+    {
+        self.items[site].state = Some(state);
+    }
+
+    pub(crate) fn set_link(&mut self, site: usize, link: Written)
+        requires { site < length self.old }
+        ensures { self.new ≡ update self.old site (λ x. record x { link = link }) }
+    {
+        self.items[site].link = link;
+    }
+
     fn get(&self, site: usize) -> MadeSite
         requires { site < length self.now }
         ensures { slice_get self.now site ≡ Some result }
@@ -107,10 +196,10 @@ pub struct MadeAgent {
 /// A rule: a left pattern, what becomes of its nodes, and the agents that it creates.
 #[derive(Drop)]
 pub struct Rule {
-    name: Name,
-    left: Pattern,
-    actions: Vec<NodeAction>,
-    made: Vec<MadeAgent>,
+    pub(crate) name: Name,
+    pub(crate) left: Pattern,
+    pub(crate) actions: Vec<NodeAction>,
+    pub(crate) made: Vec<MadeAgent>,
 }
 
 impl marker::Model for Rule {
@@ -130,6 +219,19 @@ fn find_action(actions: &[NodeAction], node: NodeNo, site: SiteNo) -> Option<Sit
     match actions.get(node.0 as usize) {
         None => None,
         Some(action) => action.sites.get(site.0 as usize),
+    }
+}
+
+// Whether a site of a left node is touched.
+pub(crate) fn is_touched(actions: &[NodeAction], node: NodeNo, site: SiteNo) -> bool
+    ensures { result ≡ touches (option_map (λ a. a.fate) (slice_get actions.now node)) (option_and_then (λ x. x.link) (option_and_then (λ a. slice_get a.sites site) (slice_get actions.now node))) }
+{
+    match actions.get(node.0 as usize) {
+        None => false,
+        Some(action) => match action.fate {
+            Fate::Deleted => true,
+            Fate::Kept => action.sites.has_link(site.0 as usize),
+        },
     }
 }
 

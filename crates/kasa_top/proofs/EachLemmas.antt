@@ -9,7 +9,7 @@ use Rattle.kasa_top.specs.GateReading.{◌>>=◌, each, behind, behind_first}
 abbrev pub onto : {X : Type 0} → List X → Option (List X) → Option (List X)
 onto front read = option_map (λ xs. front ++ xs) read
 
-regroup : {X : Type 0} (front : List X) (x : X) (read : Option (List X)) → onto front (read >>= λ xs. Some (x ∷ xs)) ≡ onto (front ++ x ∷ []) read
+pub regroup : {X : Type 0} (front : List X) (x : X) (read : Option (List X)) → onto front (read >>= λ xs. Some (x ∷ xs)) ≡ onto (front ++ x ∷ []) read
 regroup front x None = refl
 regroup front x (Some xs) = ap (λ ys. Some ys) (sym (append_assoc front (x ∷ []) xs))
 

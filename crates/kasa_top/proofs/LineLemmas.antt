@@ -136,13 +136,14 @@ site-takes bytes s e =
     let c = some_then (λ (states : List (List ℕ)). Some (site_of b.0 states)) (states_at a.0.1) s b.2 in
     let name = name-takes a.0.0 b.0 b.1 in
     let states = states-takes a.0.1 c.0 c.1 in
-    subst (λ (y : SiteEntry). IsSiteLine y × (site_text y ≡ bytes)) (same_Some (site_of b.0 c.0) s c.2)
-    (record { name = name.0; states = states.names; some_state = states.some_state; few_states = states.few },
-      ap (λ (n : List ℕ). braced n (joined (codes " ") c.0)) name.1 ∙ ap (braced a.0.0) states.printed ∙ braced-takes bytes a.0 a.1)
+    subst (λ (y : SiteEntry). IsSiteLine y × (site_text y ≡ bytes)) (same_Some (site_of b.0 c.0) s c.2) (
+      record { name = name.0; states = states.names; some_state = states.some_state; few_states = states.few },
+      ap (λ (n : List ℕ). braced n (joined (codes " ") c.0)) name.1 ∙ ap (braced a.0.0) states.printed ∙ braced-takes bytes a.0 a.1,
+    )
 
 -- what a name lacks, and what its neighbours are not
 Lacks-names : (c : ℕ) (names : List (List ℕ)) → is_letter_or_digit c ≡ false → AllByRecursion IsGateName names → AllByRecursion (Lacks c) names
-Lacks-names c names no h = AllByRecursion-like IsGateName (Lacks c) names (λ n k. Lacks-name c n no k) h
+Lacks-names c names fails h = AllByRecursion-like IsGateName (Lacks c) names (λ n k. Lacks-name c n fails k) h
 
 Lacks-one : (c b : ℕ) → (b == c) ≡ false → Lacks c (b ∷ [])
 Lacks-one c b h = Lacks-cons c b [] h (Lacks-nil c)
@@ -152,8 +153,8 @@ Lacks-braced c name inside n i l r =
     Lacks-append c (name ++ codes "{" ++ inside) (codes "}") (Lacks-append c (name ++ codes "{") inside (Lacks-append c name (codes "{") n (Lacks-one c 123 l)) i) (Lacks-one c 125 r)
 
 pub Lacks-site : (c : ℕ) (s : SiteEntry) → is_letter_or_digit c ≡ false → (123 == c) ≡ false → (125 == c) ≡ false → (32 == c) ≡ false → IsSiteLine s → Lacks c (site_text s)
-Lacks-site c s no l r blank h =
-    Lacks-braced c s.name (joined (codes " ") s.states) (Lacks-name c s.name no h.name) (Lacks-joined c (codes " ") s.states (Lacks-one c 32 blank) (Lacks-names c s.states no h.states)) l r
+Lacks-site c s fails l r blank h =
+    Lacks-braced c s.name (joined (codes " ") s.states) (Lacks-name c s.name fails h.name) (Lacks-joined c (codes " ") s.states (Lacks-one c 32 blank) (Lacks-names c s.states fails h.states)) l r
 
 some_braced : (name inside : List ℕ) → IsGateName name → 0 < length (braced name inside)
 some_braced name inside h =
@@ -270,18 +271,19 @@ use-takes bytes u e =
     let c = some_then (λ (x : List ℕ × Option (List ℕ)). Some (use_is b.0 x.0 x.1)) (states_used_at a.0.1) u b.2 in
     let site = name-takes a.0.0 b.0 b.1 in
     let states = used-takes a.0.1 c.0 c.1 in
-    subst (λ (y : SiteUse). IsUseLine y × (use_text y ≡ bytes)) (same_Some (use_is b.0 c.0.0 c.0.1) u c.2)
-    (record { site = site.0; state = states.state; next = states.next },
-      ap (λ (n : List ℕ). braced n (state_text c.0.0 c.0.1)) site.1 ∙ ap (braced a.0.0) states.printed ∙ braced-takes bytes a.0 a.1)
+    subst (λ (y : SiteUse). IsUseLine y × (use_text y ≡ bytes)) (same_Some (use_is b.0 c.0.0 c.0.1) u c.2) (
+      record { site = site.0; state = states.state; next = states.next },
+      ap (λ (n : List ℕ). braced n (state_text c.0.0 c.0.1)) site.1 ∙ ap (braced a.0.0) states.printed ∙ braced-takes bytes a.0 a.1,
+    )
 
 Lacks-states : (c : ℕ) (state : List ℕ) (next : Option (List ℕ)) → is_letter_or_digit c ≡ false → (47 == c) ≡ false → IsGateName state → IsNext next → Lacks c (state_text state next)
-Lacks-states c state None no stroke s n = Lacks-name c state no s
-Lacks-states c state (Some next) no stroke s n =
-    Lacks-append c (state ++ codes "/") next (Lacks-append c state (codes "/") (Lacks-name c state no s) (Lacks-one c 47 stroke)) (Lacks-name c next no n)
+Lacks-states c state None fails stroke s n = Lacks-name c state fails s
+Lacks-states c state (Some next) fails stroke s n =
+    Lacks-append c (state ++ codes "/") next (Lacks-append c state (codes "/") (Lacks-name c state fails s) (Lacks-one c 47 stroke)) (Lacks-name c next fails n)
 
 Lacks-use : (c : ℕ) (u : SiteUse) → is_letter_or_digit c ≡ false → (123 == c) ≡ false → (125 == c) ≡ false → (47 == c) ≡ false → IsUseLine u → Lacks c (use_text u)
-Lacks-use c u no l r stroke h =
-    Lacks-braced c u.site (state_text u.state u.next) (Lacks-name c u.site no h.site) (Lacks-states c u.state u.next no stroke h.state h.next) l r
+Lacks-use c u fails l r stroke h =
+    Lacks-braced c u.site (state_text u.state u.next) (Lacks-name c u.site fails h.site) (Lacks-states c u.state u.next fails stroke h.state h.next) l r
 
 pub use-again : (u : SiteUse) → IsUseLine u → use_of (use_text u) ≡ Some u
 unfolding use_of
@@ -297,9 +299,9 @@ uses-again uses h =
 
 Lacks-uses : (c : ℕ) (uses : List SiteUse) → is_letter_or_digit c ≡ false → (123 == c) ≡ false → (125 == c) ≡ false → (47 == c) ≡ false → (44 == c) ≡ false → (32 == c) ≡ false →
     AllByRecursion IsUseLine uses → Lacks c (joined comma_blank (map use_text uses))
-Lacks-uses c uses no l r stroke comma blank h =
+Lacks-uses c uses fails l r stroke comma blank h =
     Lacks-joined c comma_blank (map use_text uses) (Lacks-cons c 44 (32 ∷ []) comma (Lacks-one c 32 blank))
-    (AllByRecursion-map IsUseLine (Lacks c) use_text uses (λ u k. Lacks-use c u no l r stroke k) h)
+    (AllByRecursion-map IsUseLine (Lacks c) use_text uses (λ u k. Lacks-use c u fails l r stroke k) h)
 
 abbrev agent_is : List ℕ → List SiteUse → AgentParts
 agent_is name sites = record { name = name; sites = sites }
@@ -408,13 +410,16 @@ rule-again r n a d =
     let left = agent_text r.agent ++ (codes " @ " ++ r.rate) in
     rw (cut-again 39 r.name (32 ∷ left) (Lacks-name 39 r.name refl n), name-again r.name n)
     (ap (λ (o : Option (List ℕ)). o >>= λ left. agent_at left >>= λ agent. behind (codes " @ ") agent.1 >>= λ rate. cond (is_number rate) (Some (rule_is r.name agent.0 rate)) None) (behind-append (32 ∷ []) left)
-      ∙ rw (agent-again r.agent (codes " @ " ++ r.rate) a)
-      (ap (λ (o : Option (List ℕ)). o >>= λ rate. cond (is_number rate) (Some (rule_is r.name r.agent rate)) None) (behind-append (codes " @ ") r.rate) ∙ rw d refl))
+    ∙ rw (agent-again r.agent (codes " @ " ++ r.rate) a)
+    (ap (λ (o : Option (List ℕ)). o >>= λ rate. cond (is_number rate) (Some (rule_is r.name r.agent rate)) None) (behind-append (codes " @ ") r.rate) ∙ rw d refl))
 
 -- ---- lines
 
+grouped : (q n s a t r : List ℕ) → q ++ n ++ s ++ a ++ t ++ r ≡ q ++ (n ++ (s ++ (a ++ (t ++ r))))
+grouped q n s a t r = simp append_assoc
+
 rule_form : (r : RuleLineParts) → line_text (Rule r) ≡ codes "'" ++ rule_rest r
-rule_form r = simp append_assoc
+rule_form r = grouped (codes "'") r.name (codes "' ") (agent_text r.agent) (codes " @ ") r.rate
 
 behind_parts : (o i r : Option (List ℕ)) (l : Line) → line_behind o i r ≡ Some l →
     ((rest : List ℕ) × (t : TypeEntry) × (o ≡ Some rest) × (declared_at rest ≡ Some t) × (Declared t ≡ l))
@@ -493,6 +498,6 @@ Lacks-line (Init a) h = Lacks-append 10 (codes "%init: 1 ") (agent_text a) (Lack
 Lacks-line (Rule r) h =
     Lacks-append 10 (codes "'" ++ r.name ++ codes "' " ++ agent_text r.agent ++ codes " @ ") r.rate
     (Lacks-append 10 (codes "'" ++ r.name ++ codes "' " ++ agent_text r.agent) (codes " @ ")
-      (Lacks-append 10 (codes "'" ++ r.name ++ codes "' ") (agent_text r.agent)
-        (Lacks-append 10 (codes "'" ++ r.name) (codes "' ") (Lacks-append 10 (codes "'") r.name (Lacks-text (codes "'") refl) (Lacks-name 10 r.name refl h.0)) (Lacks-text (codes "' ") refl)) (Lacks-agent r.agent h.1)) (Lacks-text (codes " @ ") refl))
+    (Lacks-append 10 (codes "'" ++ r.name ++ codes "' ") (agent_text r.agent)
+    (Lacks-append 10 (codes "'" ++ r.name) (codes "' ") (Lacks-append 10 (codes "'") r.name (Lacks-text (codes "'") refl) (Lacks-name 10 r.name refl h.0)) (Lacks-text (codes "' ") refl)) (Lacks-agent r.agent h.1)) (Lacks-text (codes " @ ") refl))
     (Lacks-number r.rate h.2)

@@ -31,13 +31,13 @@ Lacks-joined c between (x ∷ y ∷ xs) h t = Lacks-append c (x ++ between) (joi
 
 -- a byte that passes is another than one that doesn't
 other_byte : (p : ℕ → Bool) (b c : ℕ) → p b ≡ true → p c ≡ false → (b == c) ≡ false
-other_byte p b c yes no = ne_eqb b c (λ (same : b ≡ c). let moved : p c ≡ true = rw same at yes in cc)
+other_byte p b c passes fails = ne_eqb b c (λ (same : b ≡ c). let moved : p c ≡ true = rw same at passes in cc)
 
-Lacks-from_all : (p : ℕ → Bool) (c : ℕ) (bytes : List ℕ) → p c ≡ false → list_all p bytes ≡ true → Lacks c bytes
-Lacks-from_all p c [] no h = Lacks-nil c
-Lacks-from_all p c (b ∷ bytes) no h =
+pub Lacks-from_all : (p : ℕ → Bool) (c : ℕ) (bytes : List ℕ) → p c ≡ false → list_all p bytes ≡ true → Lacks c bytes
+Lacks-from_all p c [] fails h = Lacks-nil c
+Lacks-from_all p c (b ∷ bytes) fails h =
     let parts = and_parts (p b) (list_all p bytes) h in
-    Lacks-cons c b bytes (other_byte p b c parts.0 no) (Lacks-from_all p c bytes no parts.1)
+    Lacks-cons c b bytes (other_byte p b c parts.0 fails) (Lacks-from_all p c bytes fails parts.1)
 
 letter_is : (b : ℕ) → is_letter b ≡ true → is_letter_or_digit b ≡ true
 letter_is b h = rw h refl
@@ -45,11 +45,11 @@ letter_is b h = rw h refl
 -- a name has letters and digits alone
 pub Lacks-name : (c : ℕ) (name : List ℕ) → is_letter_or_digit c ≡ false → IsGateName name → Lacks c name
 unfolding is_gate_name
-Lacks-name c [] no h = absurd cc
-Lacks-name c (b ∷ bytes) no h =
+Lacks-name c [] fails h = absurd cc
+Lacks-name c (b ∷ bytes) fails h =
     let first = and_parts (is_letter b) _ h in
     let more = and_parts _ (list_all is_letter_or_digit bytes) first.1 in
-    Lacks-cons c b bytes (other_byte is_letter_or_digit b c (letter_is b first.0) no) (Lacks-from_all is_letter_or_digit c bytes no more.1)
+    Lacks-cons c b bytes (other_byte is_letter_or_digit b c (letter_is b first.0) fails) (Lacks-from_all is_letter_or_digit c bytes fails more.1)
 
 pub some_byte : (name : List ℕ) → IsGateName name → 0 < length name
 unfolding is_gate_name
@@ -103,34 +103,30 @@ module _ {X : Type 0} (read : List ℕ → Option X) (text : X → List ℕ) (P 
 
 -- ---- between commas and blanks
 
-blank_before : List ℕ → List ℕ
+abbrev pub blank_before : List ℕ → List ℕ
 blank_before t = 32 ∷ t
 
 abbrev pub comma_blank : List ℕ
 comma_blank = 44 ∷ 32 ∷ []
 
 blank_first : (u : List ℕ) (xs : List (List ℕ)) → join_with_byte 44 (blank_before u ∷ xs) ≡ 32 ∷ join_with_byte 44 (u ∷ xs)
-unfolding blank_before
 blank_first u [] = refl
 blank_first u (x ∷ xs) = refl
 
 pub joined-comma : (t : List ℕ) (more : List (List ℕ)) → joined comma_blank (t ∷ more) ≡ join_with_byte 44 (t ∷ map blank_before more)
-unfolding blank_before
 joined-comma t [] = refl
 joined-comma t (u ∷ more) =
     append_assoc t comma_blank (joined comma_blank (u ∷ more)) ∙ ap (λ (x : List ℕ). t ++ (44 ∷ 32 ∷ x)) (joined-comma u more)
     ∙ ap (λ (x : List ℕ). t ++ (44 ∷ x)) (sym (blank_first u (map blank_before more)))
 
 blank_again : (u : List ℕ) → behind (32 ∷ []) (blank_before u) ≡ Some u
-unfolding behind blank_before
+unfolding behind
 blank_again u = refl
 
 blank_takes : (p u : List ℕ) → behind (32 ∷ []) p ≡ Some u → ⊤ × (blank_before u ≡ p)
-unfolding blank_before
 blank_takes p u e = (tt, sym (behind-some (32 ∷ []) p u e))
 
 Lacks-blank : (u : List ℕ) → Lacks 44 u → Lacks 44 (blank_before u)
-unfolding blank_before
 Lacks-blank u h = Lacks-cons 44 32 u refl h
 
 anything : (xs : List (List ℕ)) → AllByRecursion (λ _. ⊤) xs

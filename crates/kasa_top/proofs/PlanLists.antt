@@ -1,11 +1,11 @@
 -- Ascending lists of numbers, and which numbers stand in them.
-use Rattle.std.proofs.Common.{Bool, true, false, IsTrue, ◌≡◌, ◌≢◌, ℕ, zero, suc, ◌+◌, ◌-◌, ◌<◌, ◌≤◌, ◌⊎◌, inl, inr, List, [], ◌∷◌, ◌++◌, length, refl, ap, subst, sym, ◌∙◌, arith}
+use Rattle.std.proofs.Common.{Bool, true, false, IsTrue, ◌≡◌, ◌≢◌, ℕ, zero, suc, ◌+◌, ◌-◌, ◌<◌, ◌≤◌, ◌⊎◌, inl, inr, List, [], ◌∷◌, ◌++◌, length, get_or, refl, ap, subst, sym, ◌∙◌, arith}
 use Rattle.std.specs.Prelude.{Some, slice_get}
 use Rattle.std.specs.List.{list_any}
 use Rattle.std.proofs.Math.Dec.{eqb}
 use Rattle.std.proofs.lemmas.Bool.{eq-eqb, eqb-true}
 use Rattle.std.proofs.lemmas.Bool.Decides.{eqb_tells}
-use Rattle.std.proofs.lemmas.Option.{slice_get_within}
+use Rattle.std.proofs.lemmas.Option.{slice_get_read, slice_get_within}
 use Rattle.std.proofs.lemmas.Map.Keys.{any_passes_from_place}
 use Rattle.kasa_graph.specs.Lists.{Has}
 use Rattle.kasa_graph.proofs.ListLemmas.{below_or}
@@ -56,6 +56,10 @@ Has-push_old (z ∷ xs) y x (suc k, e) = Has-later z (xs ++ y ∷ []) x (Has-pus
 pub Has-push_new : {X : Type 0} (xs : List X) (y : X) → Has (xs ++ y ∷ []) y
 Has-push_new [] y = Has-head y []
 Has-push_new (z ∷ xs) y = Has-later z (xs ++ y ∷ []) y (Has-push_new xs y)
+
+-- the element that a loop reads at its index
+pub element_at : {X : Type 0} (xs ys : List X) (i : ℕ) (x : X) → xs ≡ ys → i < length xs → x ≡ get_or xs i x → slice_get ys i ≡ Some x
+element_at xs ys i x same within is = rw (← same) (slice_get_read xs (length xs) i x refl within is)
 
 -- ---- what holds of each element, as far as a loop has come
 

@@ -1,5 +1,5 @@
 -- Views in a sorted set: their order is that of the plan, and what an insertion adds.
-use Rattle.std.proofs.Common.{◌≡◌, ℕ, zero, ◌<◌, ◌⊎◌, inl, inr, List, [], ◌∷◌, map, refl, ap, sym, subst, ◌∙◌, Some, slice_get, Vec}
+use Rattle.std.proofs.Common.{◌≡◌, ℕ, zero, ◌+◌, ◌<◌, ◌≤◌, ◌⊎◌, inl, inr, List, [], ◌∷◌, length, map, refl, ap, sym, subst, ◌∙◌, arith, Some, slice_get, Vec}
 use Rattle.std.specs.Global.{Global}
 use Rattle.std.specs.declared.cmp.Ordering.{Ordering}
 use Rattle.std.specs.declared.cmp.Ordering.TheVariants.{Less, Equal, Greater}
@@ -113,3 +113,13 @@ inserted_has_new (w ∷ vs) v = new_at (view_cmp v w) vs v w (insert_key view_cm
 pub view_families-given : (vs : List (ℕ × Vec ℕ Global)) → view_families (map (λ v. v) vs) ≡ view_families vs
 view_families-given [] = refl
 view_families-given (v ∷ vs) = ap (λ fs. view_family v ∷ fs) (view_families-given vs)
+
+-- at most one more
+length_at : (o : Ordering) (vs : List (ℕ × Vec ℕ Global)) (v w : ℕ × Vec ℕ Global) (more : List (ℕ × Vec ℕ Global)) → length more ≤ length vs + 1 → length (match_ordering o (v ∷ w ∷ vs) (w ∷ vs) (w ∷ more)) ≤ length (w ∷ vs) + 1
+length_at Less vs v w more most = omega arith
+length_at Equal vs v w more most = omega arith
+length_at Greater vs v w more most = omega arith
+
+pub length-inserted : (vs : List (ℕ × Vec ℕ Global)) (v : ℕ × Vec ℕ Global) → length (insert_key view_cmp vs v) ≤ length vs + 1
+length-inserted [] v = omega arith
+length-inserted (w ∷ vs) v = length_at (view_cmp v w) vs v w (insert_key view_cmp vs v) (length-inserted vs v)

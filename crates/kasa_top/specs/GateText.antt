@@ -174,24 +174,20 @@ gate_rule_of sig r = record { name = r.name; agent = type_number sig r.agent.nam
 
 -- ---- which declarations are a model
 
--- the names of its sites are different, and so are those of a site's states
-pub record HasDifferentNames (t : TypeEntry) : Type 0 where
-  pub sites : AllDifferent (map (λ s. s.name) t.sites)
-  pub states : AllByRecursion (λ s. AllDifferent s.states) t.sites
+-- the names of the sites are different, and so are those of a site's states
+pub record HaveDifferentNames (sites : List SiteEntry) : Type 0 where
+  pub differ : AllDifferent (map (λ s. s.name) sites)
+  pub states : AllByRecursion (λ s. AllDifferent s.states) sites
 
 -- at most 8 types, each declared once
 pub record AreTypes (sig : List TypeEntry) : Type 0 where
   pub differ : AllDifferent (map (λ t. t.name) sig)
-  pub each : AllByRecursion HasDifferentNames sig
+  pub sites : AllByRecursion (λ t. HaveDifferentNames t.sites) sig
   pub few : length sig ≤ 8
 
--- the site has these states
-abbrev pub AreStatesOf : SiteEntry → SiteUse → Type 0
-AreStatesOf s u = Has s.states u.state × IsNextOf u.next
-  where
-    IsNextOf : Option (List ℕ) → Type 0
-    IsNextOf None = ⊤
-    IsNextOf (Some next) = Has s.states next
+abbrev pub IsNextIn : List (List ℕ) → Option (List ℕ) → Type 0
+IsNextIn states None = ⊤
+IsNextIn states (Some next) = Has states next
 
 -- one of the sites has this name, and these states
 pub record IsUseOf (sites : List SiteEntry) (u : SiteUse) : Type 0 where
@@ -199,13 +195,18 @@ pub record IsUseOf (sites : List SiteEntry) (u : SiteUse) : Type 0 where
   pub site : SiteEntry
   pub stands : slice_get sites number ≡ Some site
   pub named : site.name ≡ u.site
-  pub states : AreStatesOf site u
+  pub state : Has site.states u.state
+  pub next : IsNextIn site.states u.next
 
--- the type is declared, and so are the sites with their states, each of them used once
+-- each of them is a use of a site, no two of one site
+pub record AreUsesOf (sites : List SiteEntry) (uses : List SiteUse) : Type 0 where
+  pub differ : AllDifferent (map (λ u. u.site) uses)
+  pub each : AllByRecursion (IsUseOf sites) uses
+
+-- the type is declared, and so are the sites with their states
 pub record IsAgentOf (sig : List TypeEntry) (a : AgentParts) : Type 0 where
   pub declared : Has (map (λ t. t.name) sig) a.name
-  pub sites_differ : AllDifferent (map (λ u. u.site) a.sites)
-  pub sites : AllByRecursion (IsUseOf (sites_of sig (type_number sig a.name))) a.sites
+  pub sites : AreUsesOf (sites_of sig (type_number sig a.name)) a.sites
 
 pub record AreLines (lines : List Line) : Type 0 where
   pub each : AllByRecursion IsLine lines

@@ -6,3 +6,4 @@ pub mod Plan
 pub mod GateLines
 pub mod GateText
 pub mod GateReading
+pub mod GateNumbers

@@ -49,13 +49,13 @@ IsMentionedSet model a sites = (r : RuleParts) × (n : ℕ) × Has model.rules r
 
 -- the sites of the type that no left node mentions
 abbrev pub IsUnmentionedSet : Model → ℕ → List ℕ → Type 0
-IsUnmentionedSet model a sites = IsListOf (λ s. HasSite model.sig a s × (IsMentioned model a s → ⊥)) sites
+IsUnmentionedSet model a sites = IsListOf (λ s. HasSite model.sig a s × (¬ IsMentioned model a s)) sites
 
 -- the 16 least of them, or the others
 abbrev pub IsPart : List ℕ → List ℕ → Type 0
 IsPart whole sites = (sites ≡ take 16 whole) ⊎ (sites ≡ drop 16 whole)
 
--- the sites of the type that are to be seen together, as far as they are few enough
+-- such a set, or, where it has more than 16 sites, its 16 least or the others; but no empty one
 abbrev pub IsSiteSet : Model → ℕ → List ℕ → Type 0
 IsSiteSet model a sites = (whole : List ℕ) × (IsMentionedSet model a whole ⊎ IsUnmentionedSet model a whole) × IsPart whole sites × (sites ≢ [])
 

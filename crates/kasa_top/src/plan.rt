@@ -1,5 +1,6 @@
 // The plan of views: which sites of a type are looked at together.
-ghost use Rattle.std.specs.Prelude.{◌≡◌, ℕ, ◌≤◌, ◌<◌, ◌⊎◌, ◌↔◌, List, length, Option, IsTrue, IfOk, OnOk};
+ghost use Rattle.std.specs.Prelude.{◌≡◌, ℕ, ◌+◌, ◌≤◌, ◌<◌, ◌⊎◌, ◌↔◌, List, length, Option, IsTrue, IfOk, OnOk};
+ghost use Rattle.std.specs.BTreeSet.{btree_set_len};
 ghost use Rattle.kasa_graph.specs.Lists.{Has, AllDifferent};
 ghost use Rattle.kasa_graph.specs.Signature.{state_counts};
 ghost use Rattle.kasa_families.specs.declared.family.Family.{Family};
@@ -18,12 +19,13 @@ use std::collections::BTreeSet;
 /// Views, each a type and an ascending list of its sites, in their order.
 type Views = BTreeSet<(AgentType, Vec<SiteNo>)>;
 
-/// The views of a model: for each type the largest sets of sites that a rule mentions together, and of those that none
-/// mentions. It fails only for want of memory.
+/// The views of a model: for each type the largest of the sets of sites that a rule mentions together and of those that
+/// none mentions, as the covering classes of KaSa; at most 65 a type. It fails only for want of memory.
 pub fn plan(alloc: Global, gate: &GateModel) -> Result<Vec<Family>, NoMemory>
     ensures plan { IfOk result (λ families. IsViewPlan (model_of gate.now) families.items) }
     ensures valid { IfOk result (λ families. (f : Family) → Has families.items f → IsFamily gate.now.sig f) }
     ensures different { IfOk result (λ families. AllDifferent families.items) }
+    ensures few { IfOk result (λ families. length families.items ≤ 520) }
 {
     let mut views = BTreeSet::new(alloc);
     for agent in 0..gate.sig.types() {
@@ -54,7 +56,8 @@ fn add_views(
     agent: AgentType,
     views: &mut Views,
 ) -> Result<(), NoMemory>
-    ensures { OnOk result ((f : Family) → Has (view_families views.new.keys) f ↔ (Has (view_families views.old.keys) f ⊎ IsViewFamily (model_of gate.now) agent f)) }
+    ensures added { OnOk result ((f : Family) → Has (view_families views.new.keys) f ↔ (Has (view_families views.old.keys) f ⊎ IsViewFamily (model_of gate.now) agent f)) }
+    ensures few { OnOk result (btree_set_len views.new ≤ btree_set_len views.old + 65) }
 {
     if gate.sig.sites(agent) == 0 {
         views.insert((agent, Vec::new(alloc)))?;
@@ -71,7 +74,8 @@ fn add_largest(
     sets: &[Sites],
     views: &mut Views,
 ) -> Result<(), NoMemory>
-    ensures { OnOk result ((f : Family) → Has (view_families views.new.keys) f ↔ (Has (view_families views.old.keys) f ⊎ ((sites : List ℕ) × (f ≡ View agent sites) × IsLargest sets.now sites))) }
+    ensures added { OnOk result ((f : Family) → Has (view_families views.new.keys) f ↔ (Has (view_families views.old.keys) f ⊎ ((sites : List ℕ) × (f ≡ View agent sites) × IsLargest sets.now sites))) }
+    ensures few { OnOk result (btree_set_len views.new ≤ btree_set_len views.old + length sets.now) }
 {
     for set in sets {
         let sites = set.as_slice();
@@ -84,7 +88,8 @@ fn add_largest(
 
 // The sites of the type that each rule mentions, and those that none does.
 fn site_sets(alloc: Global, gate: &GateModel, agent: AgentType) -> Result<Vec<Sites>, NoMemory>
-    ensures { IfOk result (λ sets. (sites : List ℕ) → Has sets.items sites ↔ IsWholeSet (model_of gate.now) agent sites) }
+    ensures exact { IfOk result (λ sets. (sites : List ℕ) → Has sets.items sites ↔ IsWholeSet (model_of gate.now) agent sites) }
+    ensures few { IfOk result (λ sets. length sets.items ≤ length gate.now.rules + 1) }
 {
     let mut sets = Vec::new(alloc);
     for rule in &gate.rules {

@@ -1,9 +1,8 @@
-use Rattle.std.proofs.Common.{◌≡◌, ℕ, refl, ap, sym, subst, ◌∙◌, Some, slice_get, ◌<◌, length}
-use Rattle.std.proofs.lemmas.Option.{slice_get_read}
+use Rattle.std.proofs.Common.{◌≡◌, ℕ, refl, ap, sym, subst, ◌∙◌, Some, slice_get}
 use Rattle.std.proofs.lemmas.Bool.{eqb-true, eq-eqb}
 use Rattle.kasa_top.specs.Gate.{GateRuleParts, IsGate}
 use Rattle.kasa_top.specs.GatePlan.{IsNamedAt}
-use Rattle.kasa_top.proofs.PlanLists.{told_not, each_more, each_end}
+use Rattle.kasa_top.proofs.PlanLists.{element_at, told_not, each_more, each_end}
 use Rattle.kasa_top.proofs.GateRules.{mentioned_named, named_mentioned}
 use Rattle.kasa_top.proofs.plan.is_mentioned.Goals as goal
 use Rattle.kasa_top.proofs.plan.is_mentioned.Goals.{else-eq-via-then-eq+else-is_named_at, else-eq-via-else-eq}
@@ -15,8 +14,7 @@ IsNotBy a s g = g.agent ≡ a → IsNamedAt g.sites s → ⊥
 pub loop-rule-preserved : goal.loop-rule-preserved
 loop-rule-preserved c =
     let same : c.deref-rule-items.result.now ≡ c.args.gate.now.rules = c.deref-rule-items.ensures.value ∙ ap (λ m. m.rules) c.gate.view_is in
-    let within : c.loop-rule.rule-index < length c.args.gate.now.rules = rw same at c.loop-rule-test.true in
-    let at : slice_get c.args.gate.now.rules c.loop-rule.rule-index ≡ Some c.rule-item.result = slice_get_read _ _ _ _ refl within (rw same at c.rule-item.is) in
+    let at : slice_get c.args.gate.now.rules c.loop-rule.rule-index ≡ Some c.rule-item.result = element_at _ _ _ _ same c.loop-rule-test.true c.rule-item.is in
     each_more (IsNotBy c.args.agent c.args.site) c.args.gate.now.rules _ c.rule-item.result at
     (λ own named. elim c.else-eq.branch [
       | else-eq-via-then-eq+else-is_named_at w ↦ told_not (IsNamedAt c.rule-item.result.sites c.args.site) _ w.if-is_named_at.false
@@ -29,8 +27,7 @@ loop-rule-preserved c =
 pub returns-then-is_named_at : goal.returns-then-is_named_at
 returns-then-is_named_at c =
     let same : c.deref-rule-items.result.now ≡ c.args.gate.now.rules = c.deref-rule-items.ensures.value ∙ ap (λ m. m.rules) c.gate.view_is in
-    let within : c.loop-rule.rule-index < length c.args.gate.now.rules = rw same at c.loop-rule-test.true in
-    let at : slice_get c.args.gate.now.rules c.loop-rule.rule-index ≡ Some c.rule-item.result = slice_get_read _ _ _ _ refl within (rw same at c.rule-item.is) in
+    let at : slice_get c.args.gate.now.rules c.loop-rule.rule-index ≡ Some c.rule-item.result = element_at _ _ _ _ same c.loop-rule-test.true c.rule-item.is in
     let own : c.rule-item.result.agent ≡ c.args.agent = sym (ap (λ r. r.agent) c.rule.view_is) ∙ eqb-true _ _ (sym c.eq.ensures ∙ c.if-eq.true) in
     let named : IsNamedAt c.rule-item.result.sites c.args.site = rw (c.deref.ensures.value ∙ ap (λ r. r.sites) c.rule.view_is) at (c.is_named_at.ensures.0 c.if-is_named_at.true) in
     (λ told. named_mentioned c.args.gate.now c.args.agent c.args.site (subst IsGate c.gate.view_is c.gate.invariant) (c.rule-item.result, (c.loop-rule.rule-index, at), own, named), λ mentioned. refl)

@@ -1,7 +1,7 @@
-use Rattle.std.proofs.Common.{◌≡◌, ap, ◌∙◌, refl, arith, Some, slice_get, length, ◌<◌}
-use Rattle.std.proofs.lemmas.Option.{slice_get_read, slice_get_within}
+use Rattle.std.proofs.Common.{◌≡◌, ap, ◌∙◌, arith, Some, slice_get, length, ◌<◌}
+use Rattle.std.proofs.lemmas.Option.{slice_get_within}
 use Rattle.kasa_top.specs.GatePlan.{IsNamed, IsNamedAt}
-use Rattle.kasa_top.proofs.PlanLists.{told_not, IsListBelow-start, IsListBelow-add, IsListBelow-skip, IsListBelow-end}
+use Rattle.kasa_top.proofs.PlanLists.{element_at, told_not, IsListBelow-start, IsListBelow-add, IsListBelow-skip, IsListBelow-end}
 use Rattle.kasa_top.proofs.GateRules.{IsNamed-at}
 use Rattle.kasa_top.proofs.plan.mentioned_sites.Goals as goal
 use Rattle.kasa_top.proofs.plan.mentioned_sites.Goals.{then-is_named+in_ok-push, else-is_named}
@@ -12,8 +12,7 @@ loop-number-init c = rw c.new-sites.ensures.items (IsListBelow-start (IsNamedAt 
 pub loop-number-preserved : goal.loop-number-preserved
 loop-number-preserved c =
     let same : c.deref-site-items.result.now ≡ c.args.rule.now.sites = c.deref-site-items.ensures.value ∙ ap (λ r. r.sites) c.rule.view_is in
-    let within : c.loop-number.number < length c.args.rule.now.sites = rw same at c.loop-number-test.true in
-    let at : slice_get c.args.rule.now.sites c.loop-number.number ≡ Some c.site-item.result = slice_get_read _ _ _ _ refl within (rw same at c.site-item.is) in
+    let at : slice_get c.args.rule.now.sites c.loop-number.number ≡ Some c.site-item.result = element_at _ _ _ _ same c.loop-number-test.true c.site-item.is in
     elim c.if-is_named.branch [
       | then-is_named+in_ok-push w ↦ rw (ap (λ v. v.items) w.sites-is ∙ w.in_ok-push.ensures.items)
           (IsListBelow-add (IsNamedAt c.args.rule.now.sites) _ _ (c.site-item.result, at, c.is_named.ensures.0 w.if-is_named.true) c.loop-number.invariant)
