@@ -1,6 +1,7 @@
 //! Families of patterns: a root, and the rows that refine it.
 #![tactic(auto)]
 
+mod compatible;
 mod family;
 pub mod laws;
 mod patterns;
@@ -8,8 +9,9 @@ mod row;
 mod rows;
 mod valid;
 
+pub use compatible::{Spot, is_compatible};
 pub use family::{Family, Sites};
 pub use patterns::{pattern, root};
-pub use row::{Local, LocalLink, Locals, Row, Spot};
-pub use rows::Rows;
+pub use row::{Local, LocalLink, Locals, Row};
+pub use rows::{Missing, Origin, Rows, Verdict};
 pub use valid::{is_family, is_row};

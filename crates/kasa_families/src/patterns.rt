@@ -117,7 +117,7 @@ fn bond(g: &mut Pattern, site: SiteNo, other: NodeNo, other_site: SiteNo)
 }
 
 // The test that a state stands for.
-fn state_test_of(state: Option<StateNo>) -> StateTest
+pub(crate) fn state_test_of(state: Option<StateNo>) -> StateTest
     ensures { result ≡ local_state_test state }
 {
     match state {
@@ -127,7 +127,7 @@ fn state_test_of(state: Option<StateNo>) -> StateTest
 }
 
 // The test that a link stands for.
-fn link_test_of(link: LocalLink) -> LinkTest
+pub(crate) fn link_test_of(link: LocalLink) -> LinkTest
     ensures { result ≡ local_link_test link }
 {
     match link {
