@@ -1,14 +1,13 @@
 -- Numbers of bonds in the text of a pattern.
-use Rattle.std.proofs.Common.{◌≡◌, ◌≢◌, ◌∙◌, ◌<◌, ◌≤◌, ◌+◌, one-add, ◌||◌, ◌&&◌, nat_eq, nat_lt, ℕ, zero, suc, List, [], ◌∷◌, ◌++◌, Bool, true, false, not, cond, if◌then◌else◌, length, map, refl, sym, ap, arith, Option, Some, None, slice_get, position, take, append_assoc, ◌⊎◌, inl, inr}
-use Rattle.std.specs.List.{position_or_len, list_any}
+use Rattle.std.proofs.Common.{◌≡◌, ◌≢◌, ◌∙◌, ◌<◌, ◌≤◌, ◌+◌, one-add, ◌&&◌, nat_eq, nat_lt, ℕ, zero, suc, List, [], ◌∷◌, ◌++◌, Bool, true, false, not, cond, if◌then◌else◌, length, refl, sym, ap, arith, Option, Some, None, slice_get, position, take, append_assoc, ◌⊎◌, inl, inr}
+use Rattle.std.specs.List.{list_any}
 use Rattle.std.proofs.lemmas.Grind.{common_steps}
 use Rattle.std.proofs.lemmas.Bool.{le-ltb, lt-ltb}
 use Rattle.std.proofs.lemmas.Bool.Decides.{nat_tests}
 use Rattle.indexmap.specs.IndexSet.{insert_key}
 use Rattle.kasa_graph.specs.Lists.{Has}
 use Rattle.std.proofs.lemmas.List.{take_all}
-use Rattle.kasa_graph.specs.declared.pattern.LinkTest.{LinkTest}
-use Rattle.kasa_graph.specs.declared.pattern.LinkTest.TheVariants.{Any, Free, Bound, Partner, To}
+use Rattle.kasa_graph.specs.declared.pattern.LinkTest.TheVariants.{Any, To}
 use Rattle.kasa_graph.specs.declared.pattern.SiteTests.{SiteTests}
 use Rattle.kasa_graph.specs.declared.pattern.Node.{Node}
 use Rattle.kasa_graph.specs.Pattern.{site_at, link_test, IsPattern}

@@ -14,3 +14,4 @@ pub mod NameLemmas
 pub mod NewNameLemmas
 pub mod BondLemmas
 pub mod TextLemmas
+pub mod OverLemmas

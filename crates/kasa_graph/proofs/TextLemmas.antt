@@ -1,13 +1,8 @@
 -- The text of a pattern, written piece by piece.
-use Rattle.std.proofs.Common.{◌≡◌, ◌≢◌, ◌∙◌, ◌<◌, ◌≤◌, ◌+◌, add-zero, add-one, ◌||◌, nat_lt, ℕ, zero, suc, List, [], ◌∷◌, ◌++◌, Bool, true, false, not, cond, if◌then◌else◌, length, map, refl, sym, ap, arith, Option, Some, None, slice_get, get_or, take, append_assoc, codes, decimal}
-use Rattle.std.specs.Option.{option_map_or}
-use Rattle.std.specs.Prelude.{option_map}
-use Rattle.std.specs.List.{join_with_byte}
+use Rattle.std.proofs.Common.{◌≡◌, ◌∙◌, ◌<◌, ◌≤◌, ◌+◌, add-one, ◌||◌, nat_lt, ℕ, zero, suc, List, [], ◌∷◌, ◌++◌, Bool, true, false, not, if◌then◌else◌, length, refl, sym, ap, arith, Some, slice_get, get_or, take, append_assoc, codes, decimal}
 use Rattle.std.proofs.lemmas.Option.{slice_get-get_or}
 use Rattle.std.proofs.lemmas.Bool.{lt-ltb}
 use Rattle.std.proofs.lemmas.List.{append-nil, take_all}
-use Rattle.kasa_graph.specs.declared.pattern.StateTest.{StateTest}
-use Rattle.kasa_graph.specs.declared.pattern.StateTest.TheVariants as state
 use Rattle.kasa_graph.specs.declared.pattern.LinkTest.{LinkTest}
 use Rattle.kasa_graph.specs.declared.pattern.LinkTest.TheVariants.{Any, Free, Bound, Partner, To}
 use Rattle.kasa_graph.specs.declared.pattern.SiteTests.{SiteTests}
@@ -115,7 +110,7 @@ module _ (sig : List TypeEntry) (g : List Node) (n a : ℕ) where
         SitesWritten sites (s + 1) old new seen after true
     site_written old out comma new seen firsts after any before written with_comma with_site with_end =
         let more : site_texts sig g n a 0 (take (s + 1) sites) ≡ site_texts sig g n a 0 (take s sites) ++ site_text sig g n a s x ∷ [] =
-          texts ∙ ap (λ b. site_texts sig g n a 0 (take s sites) ++ (if b then site_text sig g n a s x ∷ [] else [])) (sym written) in
+        texts ∙ ap (λ b. site_texts sig g n a 0 (take s sites) ++ (if b then site_text sig g n a s x ∷ [] else [])) (sym written) in
         record {
           text = rw (more, comma_joined-push, with_site, with_comma, before.text, before.some) (simp append_assoc);
           ends = rw (firsts_next, with_end, before.ends) (simp append_assoc);
@@ -130,9 +125,9 @@ module _ (sig : List TypeEntry) (g : List Node) (n a : ℕ) where
         SitesWritten sites (s + 1) old out seen firsts any
     site_skipped old out seen firsts any before skipped =
         let more : site_texts sig g n a 0 (take (s + 1) sites) ≡ site_texts sig g n a 0 (take s sites) =
-          texts ∙ ap (λ b. site_texts sig g n a 0 (take s sites) ++ (if b then site_text sig g n a s x ∷ [] else [])) (sym skipped) ∙ append-nil _ in
+        texts ∙ ap (λ b. site_texts sig g n a 0 (take s sites) ++ (if b then site_text sig g n a s x ∷ [] else [])) (sym skipped) ∙ append-nil _ in
         let ends : first_ends_in n 0 (take (s + 1) sites) ≡ first_ends_in n 0 (take s sites) =
-          firsts_next ∙ ap (λ b. first_ends_in n 0 (take s sites) ++ (if b then (n, s) ∷ [] else [])) (no_bond x.link skipped) ∙ append-nil _ in
+        firsts_next ∙ ap (λ b. first_ends_in n 0 (take s sites) ++ (if b then (n, s) ∷ [] else [])) (no_bond x.link skipped) ∙ append-nil _ in
         record { text = rw more before.text; ends = rw ends before.ends; some = rw more before.some }
       where
         no_bond : (link : LinkTest) → false ≡ (tests_state x.state || tests_link link) → begins_bond n s link ≡ false
@@ -197,7 +192,7 @@ pub nodes_written : (sig : List TypeEntry) (g : List Node) (n : ℕ) → n < len
 nodes_written sig g n h =
     let node = some_at g n h in
     let some : is_some_list (map_from 0 (node_text sig g) (take n g)) ≡ nat_lt 0 n =
-      is_some_list-length (map_from 0 (node_text sig g) (take n g)) ∙ ap (nat_lt 0) (length-map_from (node_text sig g) 0 (take n g) ∙ (let e = length-taken g n node.0 node.1 in omega arith)) in
+    is_some_list-length (map_from 0 (node_text sig g) (take n g)) ∙ ap (nat_lt 0) (length-map_from (node_text sig g) 0 (take n g) ∙ (let e = length-taken g n node.0 node.1 in omega arith)) in
     let text : node_text_at sig g n ≡ node_text sig g n node.0 = rw node.1 in
     ap (λ nodes. comma_joined (map_from 0 (node_text sig g) nodes)) (take-next g n node.0 node.1)
     ∙ ap comma_joined (map_from-push (node_text sig g) 0 n (take n g) node.0 (length-taken g n node.0 node.1))

@@ -1,7 +1,4 @@
-use Rattle.std.proofs.Common.{◌≡◌, ◌+◌, ◌∙◌, ap, sym, arith, length, nat_lt}
-use Rattle.std.proofs.lemmas.Grind.{common_steps}
-use Rattle.std.proofs.lemmas.Bool.Decides.{nat_tests}
-use Rattle.kasa_graph.specs.PatternText.{place}
+use Rattle.std.proofs.Common.{◌∙◌, arith, length}
 use Rattle.kasa_graph.proofs.BondLemmas.{place_absent, insert_site-new, nat_lt-self}
 use Rattle.kasa_graph.proofs.text.number_bond.Goals as goal
 

@@ -9,8 +9,8 @@ pub loop-node-preserved : goal.loop-node-preserved
 loop-node-preserved c =
     let within : c.loop-node.node < length c.args.pattern.now = omega (arith, c.nodes-node-end.ensures, c.loop-node-test.true) in (
       c.in_ok-write_node.ensures.text
-      ∙ ap (λ text. text ++ node_text_at c.args.sig.now c.args.pattern.now c.loop-node.node) (c.in_ok-write_comma.ensures ∙ ap (λ text. text ++ (if nat_lt 0 c.loop-node.node then 44 ∷ [] else [])) c.loop-node.invariant.0)
-      ∙ sym (nodes_written c.args.sig.now c.args.pattern.now c.loop-node.node within),
+          ∙ ap (λ text. text ++ node_text_at c.args.sig.now c.args.pattern.now c.loop-node.node) (c.in_ok-write_comma.ensures ∙ ap (λ text. text ++ (if nat_lt 0 c.loop-node.node then 44 ∷ [] else [])) c.loop-node.invariant.0)
+          ∙ sym (nodes_written c.args.sig.now c.args.pattern.now c.loop-node.node within),
       c.in_ok-write_node.ensures.seen,
     )
 

@@ -1,4 +1,4 @@
-use Rattle.std.proofs.Common.{◌≡◌, ◌++◌, append_assoc}
+use Rattle.std.proofs.Common.{append_assoc}
 use Rattle.kasa_graph.proofs.TextLemmas.{node_text_at-is, ends_next}
 use Rattle.kasa_graph.proofs.text.write_node.Goals as goal
 

@@ -1,6 +1,4 @@
-use Rattle.std.proofs.Common.{◌≡◌, ◌<◌, ◌≤◌, ◌∙◌, sym, ap, arith, length, Some, slice_get, true, false}
-use Rattle.kasa_graph.specs.Pattern.{site_at}
-use Rattle.kasa_graph.specs.PatternText.{is_written}
+use Rattle.std.proofs.Common.{◌≡◌, ◌<◌, ◌≤◌, ◌∙◌, sym, ap, arith, length, Some, slice_get}
 use Rattle.kasa_graph.specs.PatternTextParts.{sites_at}
 use Rattle.kasa_graph.proofs.FitLemmas.{agent_at_within}
 use Rattle.kasa_graph.proofs.BondLemmas.{slice_get-sites_at}
@@ -30,15 +28,15 @@ loop-site-preserved c =
     let count = count_sites c.args.sig.now c.args.pattern.now c.args.node c.args.agent c.requires.over c.requires.type_of in
     let within : c.loop-site.site < length c.tests-sites.result.now = omega (arith, same, count, c.sites-site-end.ensures.counts, c.loop-site-test.true) in
     let here : slice_get (sites_at c.args.pattern.now c.args.node) c.loop-site.site ≡ Some c.index-sites-site.result =
-      slice_get-sites_at c.args.pattern.now c.args.node c.loop-site.site ∙ test_at c.args.pattern.now c.args.node c.loop-site.site c.tests-sites.result.now c.index-sites-site.result c.tests-sites.ensures within c.index-sites-site.is in
+    slice_get-sites_at c.args.pattern.now c.args.node c.loop-site.site ∙ test_at c.args.pattern.now c.args.node c.loop-site.site c.tests-sites.result.now c.index-sites-site.result c.tests-sites.ensures within c.index-sites-site.is in
     elim c.if-has_test.branch [
-      then-has_test+in_ok-write_comma+in_ok-write_site w ↦
-        rw (w.out-is, w.firsts-is, w.any-is)
-        (site_written c.args.sig.now c.args.pattern.now c.args.node c.args.agent (sites_at c.args.pattern.now c.args.node) c.loop-site.site c.index-sites-site.result here _ _ _ _ _ _ _ _ c.loop-site.invariant
+      | then-has_test+in_ok-write_comma+in_ok-write_site w ↦
+          rw (w.out-is, w.firsts-is, w.any-is)
+          (site_written c.args.sig.now c.args.pattern.now c.args.node c.args.agent (sites_at c.args.pattern.now c.args.node) c.loop-site.site c.index-sites-site.result here _ _ _ _ _ _ _ _ c.loop-site.invariant
           (sym w.if-has_test.true ∙ c.has_test.ensures) w.in_ok-write_comma.ensures w.in_ok-write_site.ensures.text w.in_ok-write_site.ensures.seen)
       | else-has_test w ↦
-        rw (w.out-is, w.firsts-is, w.any-is)
-        (site_skipped c.args.sig.now c.args.pattern.now c.args.node c.args.agent (sites_at c.args.pattern.now c.args.node) c.loop-site.site c.index-sites-site.result here _ _ _ _ _ c.loop-site.invariant
+          rw (w.out-is, w.firsts-is, w.any-is)
+          (site_skipped c.args.sig.now c.args.pattern.now c.args.node c.args.agent (sites_at c.args.pattern.now c.args.node) c.loop-site.site c.index-sites-site.result here _ _ _ _ _ c.loop-site.invariant
           (sym w.if-has_test.false ∙ c.has_test.ensures))
     ]
 
