@@ -12,3 +12,6 @@ pub use mixture::{Agent, AgentSite, AgentSites, Mixture};
 pub use pattern::{LinkTest, Node, NodeSites, Pattern, SiteTests, StateTest};
 pub use refine::{Test, implies, meet};
 pub use signature::{Signature, is_name};
+
+#[cfg(test)]
+mod tests;
