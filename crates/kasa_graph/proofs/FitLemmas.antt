@@ -1,14 +1,11 @@
 -- What decides an embedding: cells that are different, and one node on its cell after the other.
-use Rattle.std.proofs.Common.{◌≡◌, ◌≢◌, ℕ, zero, suc, ◌+◌, ◌<◌, ◌≤◌, ◌⊎◌, inl, inr, Bool, true, false, List, [], ◌∷◌, refl, ap, sym, ◌∙◌, map, length, take, arith, eqb, eq-eqb}
-use Rattle.std.specs.Prelude.{Option, Some, None, ⊤, IsTrue, IsSome, is_some, is_none, slice_get, option_map, option_and_then}
+use Rattle.std.proofs.Common.{◌≡◌, ℕ, zero, suc, ◌+◌, ◌<◌, ◌≤◌, inl, inr, Bool, true, false, List, [], ◌∷◌, refl, ap, sym, ◌∙◌, length, take, arith, eqb, eq-eqb}
+use Rattle.std.specs.Prelude.{Option, Some, None, IsTrue, is_some, slice_get, option_map}
 use Rattle.std.specs.List.{list_any}
-use Rattle.std.specs.Option.{option_map_or}
 use Rattle.std.proofs.lemmas.Bool.{eqb-true}
-use Rattle.std.proofs.lemmas.Option.{slice_get_within, slice_get_past, some_pair_parts}
-use Rattle.kasa_graph.specs.declared.pattern.StateTest.{StateTest}
+use Rattle.std.proofs.lemmas.Option.{slice_get_within, slice_get_past}
 use Rattle.kasa_graph.specs.declared.pattern.StateTest.TheVariants as state
-use Rattle.kasa_graph.specs.declared.pattern.LinkTest.{LinkTest}
-use Rattle.kasa_graph.specs.declared.pattern.LinkTest.TheVariants.{Any, Free, Bound, Partner, To}
+use Rattle.kasa_graph.specs.declared.pattern.LinkTest.TheVariants.{Any, Bound}
 use Rattle.kasa_graph.specs.declared.pattern.SiteTests.{SiteTests}
 use Rattle.kasa_graph.specs.declared.pattern.Node.{Node}
 use Rattle.kasa_graph.specs.declared.mixture.Agent.{Agent}

@@ -1,6 +1,5 @@
 -- Which tests imply one another, and the most general pattern that has a further test.
 use Rattle.std.proofs.Common.{◌≡◌, ◌≢◌, ℕ, zero, suc, ◌⊎◌, inl, inr, List, [], ◌∷◌, refl, ap, sym, ◌∙◌, map}
-use Rattle.std.specs.Prelude.{Option, Some, ⊤, slice_get}
 use Rattle.std.proofs.lemmas.Option.{same_Some}
 use Rattle.kasa_graph.specs.declared.pattern.StateTest.{StateTest}
 use Rattle.kasa_graph.specs.declared.pattern.StateTest.TheVariants as state
@@ -12,7 +11,7 @@ use Rattle.kasa_graph.specs.declared.refine.Test.{Test}
 use Rattle.kasa_graph.specs.declared.refine.Test.TheVariants.{State, Link}
 use Rattle.kasa_graph.specs.Lists.{update}
 use Rattle.kasa_graph.specs.Pattern.{agent_at, state_test, link_test, types_of, with_site, with_state, with_link, with_bond, HasNodeSite, IsNoBond, IsPattern, StateImplies, LinkImplies, Implies}
-use Rattle.kasa_graph.specs.Meet.{HasTest, untested, untested_site, untested_node, IsRefined, IsMeet, HasNoMeet, with_test}
+use Rattle.kasa_graph.specs.Meet.{HasTest, untested, untested_site, untested_node, IsMeet, HasNoMeet, with_test}
 use Rattle.kasa_graph.proofs.PatternLemmas.{same_site_or_not, link_test-with_link_same, link_test-with_link_other, link_test-with_state, IsPattern-with_link, IsPattern-with_bond, IsPattern-same_links}
 use Rattle.kasa_graph.proofs.TestLemmas.{agent_at-same, types_of-with_state, types_of-with_link, types_of-with_bond, state_test-with_link, state_test-with_state_same, state_test-with_state_other, state_test-with_bond, link_test-with_bond_first, link_test-with_bond_second, link_test-with_bond_other}
 

@@ -14,3 +14,6 @@ pub use pattern::{LinkTest, Node, NodeSites, Pattern, SiteTests, StateTest};
 pub use refine::{Test, implies, meet};
 pub use signature::{Signature, is_name};
 pub use text::write_pattern;
+
+#[cfg(test)]
+mod tests;

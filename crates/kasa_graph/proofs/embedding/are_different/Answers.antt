@@ -1,7 +1,6 @@
-use Rattle.std.proofs.Common.{◌≡◌, refl, length, slice_index_or, arith}
-use Rattle.std.specs.Prelude.{Some, slice_get}
+use Rattle.std.proofs.Common.{refl}
 use Rattle.std.proofs.lemmas.Option.{slice_get-get_or}
-use Rattle.kasa_graph.proofs.FitLemmas.{AreDifferentBelow-more, AllDifferent-below, not_AllDifferent}
+use Rattle.kasa_graph.proofs.FitLemmas.{AreDifferentBelow-more, AllDifferent-below}
 use Rattle.kasa_graph.proofs.embedding.are_different.Goals as goal
 
 pub loop-k-preserved : goal.loop-k-preserved

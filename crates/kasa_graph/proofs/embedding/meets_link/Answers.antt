@@ -1,4 +1,3 @@
-use Rattle.std.proofs.Common.{refl}
 use Rattle.kasa_graph.proofs.FitLemmas.{MeetsLink-Bound, bound_of_meets}
 use Rattle.kasa_graph.proofs.embedding.meets_link.Goals as goal
 

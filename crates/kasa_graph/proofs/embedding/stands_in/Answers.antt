@@ -1,4 +1,3 @@
-use Rattle.std.proofs.Common.{sym, refl}
 use Rattle.kasa_graph.proofs.FitLemmas.{Has-list_any, list_any-Has}
 use Rattle.kasa_graph.proofs.embedding.stands_in.Goals as goal
 

@@ -1,7 +1,7 @@
-use Rattle.std.proofs.Common.{◌≡◌, ◌≢◌, sym, refl, rules}
+use Rattle.std.proofs.Common.{◌≡◌, ◌≢◌, rules}
 use Rattle.std.specs.Prelude.{Some}
 use Rattle.kasa_graph.specs.declared.pattern.LinkTest.TheVariants.{To}
-use Rattle.kasa_graph.specs.Pattern.{site_at, link_test, IsPattern, LinkImplies, with_bond}
+use Rattle.kasa_graph.specs.Pattern.{site_at, link_test, IsPattern, LinkImplies}
 use Rattle.kasa_graph.proofs.FitLemmas.{link_test-at}
 use Rattle.kasa_graph.proofs.MeetLemmas.{IsMeet-with_bond, HasNoMeet-far, far_is_no_bond}
 use Rattle.kasa_graph.proofs.pattern.Pattern.refine_bond.Goals as goal

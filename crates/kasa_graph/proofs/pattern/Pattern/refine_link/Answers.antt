@@ -1,4 +1,4 @@
-use Rattle.std.proofs.Common.{◌≡◌, ◌∙◌, sym, refl, rules, inr}
+use Rattle.std.proofs.Common.{◌≡◌, ◌∙◌, sym, rules, inr}
 use Rattle.std.specs.Prelude.{Some}
 use Rattle.kasa_graph.specs.declared.refine.Test.TheVariants.{Link}
 use Rattle.kasa_graph.specs.Pattern.{site_at, link_test, IsPattern, IsNoBond, LinkImplies}

@@ -1,4 +1,4 @@
-use Rattle.std.proofs.Common.{◌≡◌, sym, refl, rules}
+use Rattle.std.proofs.Common.{◌≡◌, rules}
 use Rattle.std.specs.Prelude.{Some}
 use Rattle.kasa_graph.specs.declared.refine.Test.TheVariants.{State}
 use Rattle.kasa_graph.specs.Pattern.{site_at, IsPattern}
