@@ -228,19 +228,19 @@ mod tests {
     #[test]
     fn names_are_ordered_as_their_bytes(rt: HostRuntime) -> Result<(), Fail> {
         let alloc = rt.alloc();
-        let rows: [(&str, &str, Ordering); 5] = [
-            ("", "", Ordering::Equal),
-            ("", "a", Ordering::Less),
-            ("Hub", "Hub", Ordering::Equal),
-            ("Hub", "Hu", Ordering::Greater),
-            ("B2", "a", Ordering::Less),
+        let rows: [(&[u8], &[u8], Ordering); 5] = [
+            (b"", b"", Ordering::Equal),
+            (b"", b"a", Ordering::Less),
+            (b"Hub", b"Hub", Ordering::Equal),
+            (b"Hub", b"Hu", Ordering::Greater),
+            (b"B2", b"a", Ordering::Less),
         ];
         for (a, b, want) in rows {
-            let first = Name::new(alloc, a.as_bytes())?;
-            let second = Name::new(alloc, b.as_bytes())?;
-            assert_eq!(rt; first.as_bytes(), a.as_bytes());
-            assert_eq!(rt; first.cmp(&second), want, "{a} and {b}");
-            assert_eq!(rt; first == second, a == b, "{a} and {b}");
+            let first = Name::new(alloc, a)?;
+            let second = Name::new(alloc, b)?;
+            assert_eq!(rt; first.as_bytes(), a);
+            assert_eq!(rt; first.cmp(&second), want, "{a:?} and {b:?}");
+            assert_eq!(rt; first == second, a == b, "{a:?} and {b:?}");
         }
         Ok(())
     }
