@@ -5,3 +5,4 @@ pub mod ClassLemmas
 pub mod TokenLemmas
 pub mod FrontLemmas
 pub mod OutcomeLemmas
+pub mod CoverLemmas

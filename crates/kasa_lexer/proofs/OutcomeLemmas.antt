@@ -95,7 +95,7 @@ left_over text at some = by (drop at text) refl some
         let size : length (x ∷ xs) ≡ length text - at = ap {A = List ℕ} {B = ℕ} (λ ys. length ys) e ∙ length-drop at text in
         omega (arith, size)
 
-progress : (at : ℕ) (xs : List ℕ) (kind : TokenKind) (n : ℕ) → StandsToken at xs kind n → 0 < n
+pub progress : (at : ℕ) (xs : List ℕ) (kind : TokenKind) (n : ℕ) → StandsToken at xs kind n → 0 < n
 progress at xs kind zero stands = absurd (some_token (longest-only xs kind 0 stands.1))
   where
     some_token : (let o : Option (TokenKind × ℕ) = Some (kind, 0) in token_of xs ≡ o) → ⊥

@@ -11,7 +11,7 @@ mod number;
 mod token;
 
 use kasa_num::Place;
-pub use laws::{a_text_has_an_outcome, a_text_has_one_outcome_at_most};
+pub use laws::{a_text_has_an_outcome, a_text_has_one_outcome_at_most, tokens_cover_their_text};
 pub use lexer::lex;
 use thiserror::Error;
 
