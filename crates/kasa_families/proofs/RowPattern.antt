@@ -199,7 +199,7 @@ parallel_implies sig a x u b y w ok h i j first second is_b also_b k v = (
   ],
 )
 
-typed_of : (g : List Node) (types : List ℕ) (n b : ℕ) → types_of g ≡ types → slice_get types n ≡ Some b → agent_at g n ≡ Some b
+pub typed_of : (g : List Node) (types : List ℕ) (n b : ℕ) → types_of g ≡ types → slice_get types n ≡ Some b → agent_at g n ≡ Some b
 typed_of g types n b same is = agent_at-types g n ∙ ap (λ (ts : List ℕ). slice_get ts n) same ∙ is
 
 -- at each site the row's tests imply the root's

@@ -4,3 +4,8 @@ pub mod Pattern
 pub mod Orthogonal
 pub mod Table
 pub mod Inline
+pub mod Join
+pub mod Place
+pub mod Compatible
+pub mod Spot
+pub mod First

@@ -59,8 +59,16 @@ AreLocalsBelow [] (k ∷ ks) = ⊤
 AreLocalsBelow (l ∷ ls) (k ∷ ks) = IsLocalBelow l k ⊎ ((l ≡ k) × AreLocalsBelow ls ks)
 AreLocalsBelow _ [] = ⊥
 
--- one row of a family comes before another
+-- one row comes before another
 abbrev pub IsRowBelow : Row → Row → Type 0
 IsRowBelow (Locals ls) (Locals ks) = AreLocalsBelow ls ks
+IsRowBelow (Locals ls) Same = ⊤
+IsRowBelow (Locals ls) Different = ⊤
 IsRowBelow Same Different = ⊤
 IsRowBelow _ _ = ⊥
+
+-- each row comes before the next
+abbrev pub AreAscending : List Row → Type 0
+AreAscending [] = ⊤
+AreAscending (row ∷ []) = ⊤
+AreAscending (row ∷ next ∷ rows) = IsRowBelow row next × AreAscending (next ∷ rows)

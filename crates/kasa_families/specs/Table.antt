@@ -1,10 +1,13 @@
 -- Tables: families, each with a set of rows.
-use Rattle.std.specs.Prelude.{◌≡◌, ℕ, List, [], map, slice_get}
+use Rattle.std.specs.Prelude.{◌≡◌, ℕ, ◌≤◌, ⊤, List, [], length, map, slice_get}
+use Rattle.std.specs.List.{sum_by}
 use Rattle.std.specs.Option.{option_map_or}
 use Rattle.kasa_graph.specs.Signature.{TypeEntry}
 use Rattle.kasa_graph.specs.Lists.{Has, AllDifferent}
 use Rattle.kasa_families.specs.declared.family.Family.{Family}
 use Rattle.kasa_families.specs.declared.row.Row.{Row}
+use Rattle.kasa_families.specs.declared.family.Family.TheVariants.{View, Across, Parallel}
+use Rattle.kasa_families.specs.declared.row.Row.TheVariants.{Locals, Same, Different}
 use Rattle.kasa_families.specs.Family.{IsFamily}
 use Rattle.kasa_families.specs.Row.{IsRow}
 
@@ -27,6 +30,22 @@ pub record AreTables (sig : List TypeEntry) (tables : List Table) : Type 0 where
   pub families : (t : Table) → Has tables t → IsFamily sig t.family
   pub rows_differ : (t : Table) → Has tables t → AllDifferent t.rows
   pub rows : (t : Table) → Has tables t → (row : Row) → Has t.rows row → IsRow sig t.family row
+
+-- a row has the shape of a family's rows
+abbrev pub HasShape : Family → Row → Type 0
+HasShape (View a sites) (Locals locals) = length locals ≡ length sites
+HasShape (Across a x p b y q) (Locals locals) = length locals ≡ 2
+HasShape (Parallel a x u b y w) Same = ⊤
+HasShape (Parallel a x u b y w) Different = ⊤
+HasShape _ _ = ⊥
+
+-- at most 8,000 different families, each with different rows of its shape, at most 200,000 rows in all
+pub record AreShapedTables (tables : List Table) : Type 0 where
+  pub different : AllDifferent (families_of tables)
+  pub rows_differ : (t : Table) → Has tables t → AllDifferent t.rows
+  pub shapes : (t : Table) → Has tables t → (row : Row) → Has t.rows row → HasShape t.family row
+  pub few : length tables ≤ 8000
+  pub few_rows : sum_by (λ t. length t.rows) tables ≤ 200000
 
 -- the tables hold a row of a family
 pub record Holds (tables : List Table) (family : Family) (row : Row) : Type 0 where

@@ -1,11 +1,17 @@
 //! Families of patterns: a root, and the rows that refine it.
 #![tactic(auto)]
 
+mod compatible;
 mod family;
 pub mod laws;
+mod patterns;
 mod row;
 mod rows;
+mod valid;
 
+pub use compatible::{Spot, is_compatible};
 pub use family::{Family, Sites};
-pub use row::{Local, LocalLink, Locals, Row, Spot};
-pub use rows::Rows;
+pub use patterns::{pattern, root};
+pub use row::{Local, LocalLink, Locals, Row};
+pub use rows::{Missing, Origin, Rows, Verdict};
+pub use valid::{is_family, is_row};

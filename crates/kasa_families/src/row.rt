@@ -1,7 +1,7 @@
 // Rows: what they say of the sites of their family's root.
 ghost use Rattle.std.specs.Prelude.{◌≡◌, ◌≤◌, length};
 
-use kasa_num::{AgentType, NodeNo, SiteNo, StateNo};
+use kasa_num::{AgentType, SiteNo, StateNo};
 use smallvec::SmallVec;
 use std::alloc::Global;
 use std::marker::Model;
@@ -91,11 +91,4 @@ impl Row {
             Row::Different => Row::Different,
         }
     }
-}
-
-/// Where a root stands in a pattern.
-#[derive(Clone, Copy, PartialEq, Eq, Debug)]
-pub struct Spot {
-    pub first: NodeNo,
-    pub second: Option<NodeNo>,
 }

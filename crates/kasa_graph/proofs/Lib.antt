@@ -3,8 +3,15 @@ pub mod PatternLemmas
 pub mod TestLemmas
 pub mod EmbeddingLemmas
 pub mod MixtureLemmas
+pub mod CellLemmas
+pub mod RemoveLemmas
+pub mod FitLemmas
+pub mod MeetLemmas
 pub mod BesideLemmas
 pub mod JoinedLemmas
 pub mod SignatureLemmas
 pub mod NameLemmas
 pub mod NewNameLemmas
+pub mod BondLemmas
+pub mod TextLemmas
+pub mod OverLemmas

@@ -1,5 +1,7 @@
 -- Names among the keys of a signature's maps.
-use Rattle.std.proofs.Common.{◌≡◌, ◌<◌, ◌≤◌, ◌+◌, one-add, ℕ, zero, suc, List, [], ◌∷◌, ◌++◌, Bool, true, false, not, cond, length, map, refl, sym, ap, arith, Option, Some, None, MatchOption, slice_get, position, ◌==◌, Vec, nat_lt}
+use Rattle.std.proofs.Common.{◌≡◌, ◌∙◌, ◌<◌, ◌≤◌, ◌+◌, one-add, ℕ, zero, suc, List, [], ◌∷◌, ◌++◌, Bool, true, false, not, cond, length, map, refl, sym, ap, arith, Option, Some, None, MatchOption, slice_get, option_map, position, ◌==◌, Vec, nat_lt}
+use Rattle.std.proofs.lemmas.Option.{slice_get_within, slice_get-map}
+use Rattle.std.specs.Option.{option_map_or}
 use Rattle.std.specs.Global.{Global}
 use Rattle.std.specs.List.{position_or_len, list_any}
 use Rattle.std.specs.Map.{keys_of}
@@ -10,7 +12,9 @@ use Rattle.std.proofs.lemmas.Slice.Eq.{slice_eq-Decides}
 use Rattle.indexmap.specs.IndexMap.{insert_entry}
 use Rattle.indexmap.specs.IndexSet.{insert_key}
 use Rattle.kasa_graph.specs.Lists.{Has}
-use Rattle.kasa_graph.specs.Signature.{type_names}
+use Rattle.kasa_graph.specs.Signature.{SiteEntry, TypeEntry, sites_of, state_names, state_counts, type_names, site_names, HasSite, HasState}
+use Rattle.kasa_graph.proofs.ListLemmas.{some_at}
+use Rattle.kasa_graph.proofs.SignatureLemmas.{length-map}
 use Rattle.kasa_graph.specs.SignatureView.{StateSet, SiteMap, name_bytes, site_entry, type_entry}
 
 -- whether a key is the name
@@ -93,3 +97,42 @@ insert_key-new keys key absent = rw (none keys absent)
         let here : ¬ (k.items ≡ key.items) = λ eq. absent (0, ap (λ n. Some n) eq) in
         let rest : ¬ Has (map name_bytes keys) key.items = λ h. absent (suc h.0, h.1) in
         rw (differs key.items k here, none keys rest)
+
+-- what has a name is there
+pub type_within : (sig : List TypeEntry) (a : ℕ) (name : List ℕ) → slice_get (type_names sig) a ≡ Some name → a < length sig
+type_within sig a name at =
+    let within = slice_get_within (type_names sig) a name at in
+    rw (length-map (λ (t : TypeEntry). t.name) sig) at within
+
+pub HasSite-named : (sig : List TypeEntry) (a x : ℕ) (name : List ℕ) → slice_get (site_names sig a) x ≡ Some name → HasSite sig a x
+unfolding state_counts
+HasSite-named sig a x name at =
+    let within = slice_get_within (site_names sig a) x name at in
+    let sites = rw (length-map (λ (s : SiteEntry). s.name) (sites_of sig a)) at within in
+    rw (length-map (λ (s : SiteEntry). length s.states) (sites_of sig a)) sites
+
+pub HasState-within : (sig : List TypeEntry) (a x u : ℕ) → HasSite sig a x → u < length (state_names sig a x) → HasState sig a x u
+unfolding state_counts state_names
+HasState-within sig a x u site h =
+    let sites = rw (length-map (λ (s : SiteEntry). length s.states) (sites_of sig a)) at site in
+    let there = some_at (sites_of sig a) x sites in (
+      length there.0.states,
+      slice_get-map (λ (s : SiteEntry). length s.states) (sites_of sig a) x ∙ ap (option_map (λ s. length s.states)) there.1,
+      rw there.1 at h,
+    )
+
+pub HasState-named : (sig : List TypeEntry) (a x u : ℕ) (name : List ℕ) → slice_get (state_names sig a x) u ≡ Some name → HasState sig a x u
+unfolding state_counts state_names
+HasState-named sig a x u name at = by (slice_get (sites_of sig a) x) refl at
+  where
+    by : (o : Option SiteEntry) → slice_get (sites_of sig a) x ≡ o → slice_get (option_map_or (λ s. s.states) o []) u ≡ Some name → HasState sig a x u
+    by None e at = absurd (none u at)
+      where
+        none : (u : ℕ) → slice_get [] u ≡ Some name → ⊥
+        none zero h = cc
+        none (suc u) h = cc
+    by (Some s) e at = (
+      length s.states,
+      slice_get-map (λ (s : SiteEntry). length s.states) (sites_of sig a) x ∙ ap (option_map (λ s. length s.states)) e,
+      slice_get_within s.states u name at,
+    )

@@ -7,7 +7,7 @@ use Rattle.kasa_graph.proofs.ListLemmas.{same_or_not, slice_get-update_same, sli
 use Rattle.kasa_graph.proofs.SignatureLemmas.{map-push, length-map}
 
 -- an element of a list with one more is an element before, or the new one
-at_push : {X : Type 0} (xs : List X) (y x : X) (i : ℕ) → slice_get (xs ++ y ∷ []) i ≡ Some x → (slice_get xs i ≡ Some x) ⊎ ((i ≡ length xs) × (y ≡ x))
+pub at_push : {X : Type 0} (xs : List X) (y x : X) (i : ℕ) → slice_get (xs ++ y ∷ []) i ≡ Some x → (slice_get xs i ≡ Some x) ⊎ ((i ≡ length xs) × (y ≡ x))
 at_push [] y x zero at = inr (refl, cc)
 at_push [] y x (suc i) at = absurd (none i at)
   where

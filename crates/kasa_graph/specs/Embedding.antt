@@ -23,6 +23,12 @@ MeetsLink m cells at Bound = (d t : ℕ) × (at ≡ Some (d, t))
 MeetsLink m cells at (Partner b y) = (d : ℕ) × (at ≡ Some (d, y)) × (type_in m d ≡ Some b)
 MeetsLink m cells at (To n t) = (d : ℕ) × (at ≡ Some (d, t)) × (slice_get cells n ≡ Some d)
 
+-- a cell has the type of a node and meets its tests
+pub record FitsCell (g : List Node) (m : List (Option Agent)) (cells : List ℕ) (n c : ℕ) : Type 0 where
+  pub agent : type_in m c ≡ agent_at g n
+  pub states : (s : ℕ) → MeetsState (state_in m c s) (state_test g n s)
+  pub links : (s : ℕ) → MeetsLink m cells (partner_in m c s) (link_test g n s)
+
 -- the cells, one per node, are different and living, of the nodes' types, and meet every test
 pub record IsEmbedding (g : List Node) (m : List (Option Agent)) (cells : List ℕ) : Type 0 where
   pub count : length cells ≡ length g

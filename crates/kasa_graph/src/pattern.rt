@@ -5,19 +5,22 @@ ghost use Rattle.kasa_graph.specs.Signature.{state_counts};
 
 use crate::Signature;
 use kasa_num::{AgentType, NoMemory, NodeNo, SiteNo, StateNo};
+use smallvec::SmallVec;
 use std::alloc::Global;
 use std::marker::Model;
 
 /// What a pattern asks of the state of a site.
-#[derive(Clone, Copy, PartialEq, Eq, Debug)]
+#[derive(Clone, Copy, Default, PartialEq, Eq, Debug)]
 pub enum StateTest {
+    #[default]
     Any,
     Is(StateNo),
 }
 
 /// What a pattern asks of the link of a site.
-#[derive(Clone, Copy, PartialEq, Eq, Debug)]
+#[derive(Clone, Copy, Default, PartialEq, Eq, Debug)]
 pub enum LinkTest {
+    #[default]
     Any,
     Free,
     Bound,
@@ -26,17 +29,17 @@ pub enum LinkTest {
 }
 
 /// The tests at one site, and how many states the site has.
-#[derive(Clone, Copy, PartialEq, Eq, Debug)]
+#[derive(Clone, Copy, Default, PartialEq, Eq, Debug)]
 pub struct SiteTests {
     pub states: u8,
     pub state: StateTest,
     pub link: LinkTest,
 }
 
-/// A list of sites with their tests.
+/// A list of sites with their tests. Up to eight stand in the value itself, so that copies of most nodes take no memory.
 #[derive(Drop)]
 pub struct NodeSites {
-    items: Vec<SiteTests>,
+    items: SmallVec<SiteTests, 8>,
 }
 
 impl Model for NodeSites {
@@ -59,7 +62,7 @@ pub struct Node {
 #[derive(Drop)]
 pub struct Pattern {
     alloc: Global,
-    nodes: Vec<Node>,
+    pub(crate) nodes: Vec<Node>,
 }
 
 impl Model for Pattern {
@@ -80,7 +83,7 @@ impl NodeSites {
     fn blank(alloc: Global, sig: &Signature, agent: AgentType) -> Result<NodeSites, NoMemory>
         ensures { IfOk result (λ sites. sites ≡ map blank_site (state_counts sig.now agent)) }
     {
-        let mut items = Vec::new(alloc);
+        let mut items = SmallVec::new(alloc);
         for site in 0..sig.sites(agent) {
             items.push(SiteTests {
                 states: sig.states(agent, SiteNo(site as u8)) as u8,
@@ -98,6 +101,21 @@ impl NodeSites {
         self.items[site]
     }
 
+    // The same sites with the same tests.
+    fn copy(&self, alloc: Global) -> Result<NodeSites, NoMemory>
+        ensures { IfOk result (λ sites. sites ≡ self.now) }
+    {
+        Ok(NodeSites {
+            items: SmallVec::from_slice(alloc, self.items.as_slice())?,
+        })
+    }
+
+    fn as_slice(&self) -> &[SiteTests]
+        ensures { result.now ≡ self.now }
+    {
+        self.items.as_slice()
+    }
+
     fn set(&mut self, site: usize, tests: SiteTests)
         requires { site < length self.old }
         ensures { self.new ≡ slice_set self.old site tests }
@@ -106,8 +124,31 @@ impl NodeSites {
     }
 }
 
+impl Node {
+    // An equal node.
+    fn copy(&self, alloc: Global) -> Result<Node, NoMemory>
+        ensures { IfOk result (λ node. node ≡ self.now) }
+    {
+        Ok(Node {
+            agent: self.agent,
+            sites: self.sites.copy(alloc)?,
+        })
+    }
+}
+
+// Equal nodes.
+fn copy_nodes(alloc: Global, nodes: &[Node]) -> Result<Vec<Node>, NoMemory>
+    ensures { IfOk result (λ copies. copies.items ≡ nodes.now) }
+{
+    let mut copies = Vec::with_capacity(alloc, nodes.len())?;
+    for node in nodes {
+        copies.push(node.copy(alloc)?)?;
+    }
+    Ok(copies)
+}
+
 // The tests at a site.
-fn tests_at(nodes: &[Node], n: usize, s: usize) -> SiteTests
+pub(crate) fn tests_at(nodes: &[Node], n: usize, s: usize) -> SiteTests
     requires { HasNodeSite nodes.now n s }
     ensures { site_at nodes.now n s ≡ Some result }
 {
@@ -162,6 +203,23 @@ impl Pattern {
         }
     }
 
+    // An equal pattern that keeps another allocator.
+    pub(crate) fn copy_in(&self, alloc: Global) -> Result<Pattern, NoMemory>
+        ensures { IfOk result (λ pattern. pattern ≡ self.now) }
+    {
+        Ok(Pattern {
+            alloc,
+            nodes: copy_nodes(alloc, &self.nodes)?,
+        })
+    }
+
+    /// An equal pattern.
+    pub fn copy(&self) -> Result<Pattern, NoMemory>
+        ensures { IfOk result (λ pattern. pattern ≡ self.now) }
+    {
+        self.copy_in(self.alloc)
+    }
+
     /// How many nodes there are.
     pub fn nodes(&self) -> usize
         ensures { result ≡ length self.now }
@@ -174,7 +232,23 @@ impl Pattern {
         requires { node < length self.now }
         ensures { agent_at self.now node ≡ Some result }
     {
-        self.nodes[node.0 as usize].agent
+        self.agent_of(node.0 as usize)
+    }
+
+    // The type of a node.
+    pub(crate) fn agent_of(&self, node: usize) -> AgentType
+        requires { node < length self.now }
+        ensures { agent_at self.now node ≡ Some result }
+    {
+        self.nodes[node].agent
+    }
+
+    // The tests at the sites of a node.
+    pub(crate) fn tests(&self, node: usize) -> &[SiteTests]
+        requires { node < length self.now }
+        ensures { (s : ℕ) → site_at self.now node s ≡ slice_get result.now s }
+    {
+        self.nodes[node].sites.as_slice()
     }
 
     /// The state test at a site.

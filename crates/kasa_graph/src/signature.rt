@@ -3,7 +3,7 @@ ghost use Rattle.std.specs.Prelude.{◌≡◌, ℕ, ◌+◌, ◌<◌, ◌≤◌,
 ghost use Rattle.std.specs.Option.{option_map_or};
 ghost use Rattle.kasa_graph.specs.Lists.{Has};
 ghost use Rattle.kasa_graph.specs.SignatureView.{name_bytes, site_entry};
-ghost use Rattle.kasa_graph.specs.Signature.{sites_of, state_counts, state_names, type_names, site_names, HasSite, with_new_type, with_new_site, with_state_name, with_new_state, IsName, IsNameByte};
+ghost use Rattle.kasa_graph.specs.Signature.{sites_of, state_counts, state_names, type_names, site_names, HasSite, with_new_type, with_new_site, with_state_name, with_new_state, IsName, IsNameByte, IsSignature};
 
 use indexmap::{IndexMap, IndexSet};
 use kasa_num::{AgentType, NoMemory, SiteNo, StateNo};
@@ -44,9 +44,11 @@ impl Signature {
         }
     }
 
-    /// How many types there are.
+    /// How many types there are, at most 500.
     pub fn types(&self) -> usize
-        ensures { result ≡ length self.now }
+        ensures count { result ≡ length self.now }
+        ensures few { result ≤ 500 }
+        ensures valid { IsSignature self.now }
     {
         self.types.len()
     }
@@ -54,6 +56,7 @@ impl Signature {
     /// How many sites a type has, 0 for an unknown type.
     pub fn sites(&self, agent: AgentType) -> usize
         ensures count { result ≡ length (sites_of self.now agent) }
+        ensures counts { result ≡ length (state_counts self.now agent) }
         ensures few { result ≤ 32 }
     {
         match self.sites_by_name(agent) {
@@ -226,4 +229,123 @@ fn insert_state(sites: &mut SiteNames, site: usize, name: Vec<u8>) -> Result<usi
     let number = states.len();
     states.insert(name)?;
     Ok(number)
+}
+
+#[cfg(test)]
+mod tests {
+    use super::*;
+    use std::process::Abort;
+    use std::test::Fail;
+
+    fn add_type(rt: &impl Abort, sig: &mut Signature, name: &[u8]) -> Result<AgentType, Fail> {
+        let taken = sig.find_type(name);
+        assert!(rt; is_name(name) && taken.is_none() && sig.types() < 500);
+        Ok(sig.add_type(name)?)
+    }
+
+    fn add_site(
+        rt: &impl Abort,
+        sig: &mut Signature,
+        agent: AgentType,
+        name: &[u8],
+    ) -> Result<SiteNo, Fail> {
+        let taken = sig.find_site(agent, name);
+        assert!(rt; is_name(name) && taken.is_none() && sig.sites(agent) < 32);
+        assert!(rt; (agent.0 as usize) < sig.types());
+        Ok(sig.add_site(agent, name)?)
+    }
+
+    fn add_state(
+        rt: &impl Abort,
+        sig: &mut Signature,
+        agent: AgentType,
+        site: SiteNo,
+        name: &[u8],
+    ) -> Result<StateNo, Fail> {
+        let taken = sig.find_state(agent, site, name);
+        assert!(rt; is_name(name) && taken.is_none() && sig.states(agent, site) < 32);
+        assert!(rt; (site.0 as usize) < sig.sites(agent));
+        Ok(sig.add_state(agent, site, name)?)
+    }
+
+    // Hub(port,lock{open 0}) and Cart(nose).
+    fn yard(rt: &impl Abort, alloc: Global) -> Result<Signature, Fail> {
+        let mut sig = Signature::new(alloc);
+        let hub = add_type(rt, &mut sig, b"Hub")?;
+        let cart = add_type(rt, &mut sig, b"Cart")?;
+        for name in [b"port".as_slice(), b"lock"] {
+            let _ = add_site(rt, &mut sig, hub, name)?;
+        }
+        let _ = add_site(rt, &mut sig, cart, b"nose")?;
+        for name in [b"open".as_slice(), b"0"] {
+            let _ = add_state(rt, &mut sig, hub, SiteNo(1), name)?;
+        }
+        Ok(sig)
+    }
+
+    #[test]
+    fn finds_names(rt: HostRuntime) -> Result<(), Fail> {
+        let sig = yard(&rt, rt.alloc())?;
+        for (name, number) in [
+            (b"Hub".as_slice(), Some(AgentType(0))),
+            (b"Cart", Some(AgentType(1))),
+            (b"Car", None),
+        ] {
+            assert_eq!(rt; sig.find_type(name), number);
+        }
+        for (agent, name, number) in [
+            (0, b"lock".as_slice(), Some(SiteNo(1))),
+            (1, b"nose", Some(SiteNo(0))),
+            (0, b"nose", None),
+            (2, b"nose", None),
+        ] {
+            assert_eq!(rt; sig.find_site(AgentType(agent), name), number);
+        }
+        for (site, name, number) in [
+            (1, b"0".as_slice(), Some(StateNo(1))),
+            (0, b"0", None),
+            (2, b"0", None),
+        ] {
+            assert_eq!(rt; sig.find_state(AgentType(0), SiteNo(site), name), number);
+        }
+        Ok(())
+    }
+
+    #[test]
+    fn counts_and_names(rt: HostRuntime) -> Result<(), Fail> {
+        let sig = yard(&rt, rt.alloc())?;
+        assert_eq!(rt; sig.types(), 2);
+        for (agent, sites) in [(0, 2), (1, 1), (2, 0)] {
+            assert_eq!(rt; sig.sites(AgentType(agent)), sites);
+        }
+        for (site, states) in [(0, 0), (1, 2), (2, 0)] {
+            assert_eq!(rt; sig.states(AgentType(0), SiteNo(site)), states);
+        }
+        assert!(rt; sig.type_name(AgentType(1)) == Some(b"Cart".as_slice()));
+        assert!(rt; sig.site_name(AgentType(0), SiteNo(1)) == Some(b"lock".as_slice()));
+        assert!(rt; sig.state_name(AgentType(0), SiteNo(1), StateNo(1)) == Some(b"0".as_slice()));
+        assert!(rt;
+            sig.state_name(AgentType(0), SiteNo(0), StateNo(0))
+                .is_none()
+        );
+        Ok(())
+    }
+
+    #[test]
+    fn tells_names(rt: HostRuntime) {
+        for name in [b"A".as_slice(), b"_", b"0", b"port_2", &[b'x'; 63]] {
+            assert!(rt; is_name(name));
+        }
+        for other in [
+            b"".as_slice(),
+            b"a-b",
+            b"a.b",
+            b"a ",
+            b"a~",
+            b"\xc3\xa9",
+            &[b'x'; 64],
+        ] {
+            assert!(rt; !is_name(other));
+        }
+    }
 }

@@ -4,11 +4,12 @@
 ghost use Rattle.std.specs.Prelude.{◌≡◌, IfOk};
 
 use std::alloc::{AllocError, AllocFailed, Global};
+use std::cmp::Ordering;
 use std::marker::Model;
 use thiserror::Error;
 
 /// There is no memory.
-#[derive(Clone, Copy, Debug, PartialEq, Eq, Error)]
+#[derive(Clone, Copy, Debug, PartialEq, Eq, PartialOrd, Ord, Error)]
 #[error("no memory")]
 pub struct NoMemory;
 
@@ -122,14 +123,15 @@ impl Model for FamilyNo {
     ghost inverse = { λ n. record { 0 = n } };
 }
 
-/// A place in a text: its line and its column, both from 1. A column counts bytes.
+/// A place in a text: its line and its column, both from 1. A column counts bytes. Places are
+/// ordered as they follow in the text: by line, then by column.
 #[derive(Clone, Copy, Debug, PartialEq, Eq, PartialOrd, Ord)]
 pub struct Place {
     pub line: u32,
     pub column: u32,
 }
 
-/// The bytes of a name.
+/// The bytes of a name. Names are ordered as their lists of bytes.
 #[derive(Debug, Drop)]
 pub struct Name {
     bytes: Vec<u8>,
@@ -158,5 +160,101 @@ impl Name {
         ensures { result.now ≡ self.now }
     {
         self.bytes.as_slice()
+    }
+}
+
+impl PartialEq for Name {
+    ghost use Rattle.std.specs.Prelude.{◌==◌};
+    ghost use Rattle.std.specs.Cmp.Lexicographic.{pointwise};
+    ghost use Rattle.std.specs.Cmp.Rules.{comparing};
+    ghost use Rattle.std.proofs.Common.{rules};
+
+    ghost eq = { λ a b. pointwise ◌==◌ a b };
+
+    ghost laws = { Prim.search (comparing, rules) };
+
+    fn eq(&self, other: &Name) -> bool {
+        self.as_bytes() == other.as_bytes()
+    }
+}
+
+impl Eq for Name {
+    ghost use Rattle.std.specs.Cmp.Rules.{comparing};
+    ghost use Rattle.std.proofs.Common.{rules};
+
+    ghost laws = { Prim.search (comparing, rules) };
+}
+
+impl Ord for Name {
+    ghost use Rattle.std.specs.Cmp.Lexicographic.{slice_cmp};
+    ghost use Rattle.std.specs.Cmp.Rules.{comparing};
+    ghost use Rattle.std.specs.Ordering.{nat_cmp};
+    ghost use Rattle.std.proofs.Common.{rules};
+
+    ghost cmp = { slice_cmp nat_cmp };
+
+    ghost total = { Prim.search (comparing, rules) };
+
+    ghost matches_partial_cmp = { Prim.search (comparing, rules) };
+
+    ghost matches_eq = { Prim.search (comparing, rules) };
+
+    fn cmp(&self, other: &Name) -> Ordering {
+        self.as_bytes().cmp(&other.as_bytes())
+    }
+}
+
+impl PartialOrd for Name {
+    ghost use Rattle.std.specs.Cmp.{partial_order_from_own_ties};
+    ghost use Rattle.std.specs.Cmp.Lexicographic.{slice_cmp};
+    ghost use Rattle.std.specs.Cmp.Rules.{comparing};
+    ghost use Rattle.std.specs.Ordering.{as_partial_cmp, nat_cmp};
+    ghost use Rattle.std.proofs.Common.{rules};
+
+    ghost partial_cmp = { as_partial_cmp (slice_cmp nat_cmp) };
+
+    ghost laws = { partial_order_from_own_ties (Prim.search (comparing, rules)) (Prim.search (comparing, rules)) };
+
+    fn partial_cmp(&self, other: &Name) -> Option<Ordering> {
+        Some(self.cmp(other))
+    }
+}
+
+#[cfg(test)]
+mod tests {
+    use super::*;
+    use std::test::Fail;
+
+    #[test]
+    fn names_are_ordered_as_their_bytes(rt: HostRuntime) -> Result<(), Fail> {
+        let alloc = rt.alloc();
+        let rows: [(&str, &str, Ordering); 5] = [
+            ("", "", Ordering::Equal),
+            ("", "a", Ordering::Less),
+            ("Hub", "Hub", Ordering::Equal),
+            ("Hub", "Hu", Ordering::Greater),
+            ("B2", "a", Ordering::Less),
+        ];
+        for (a, b, want) in rows {
+            let first = Name::new(alloc, a.as_bytes())?;
+            let second = Name::new(alloc, b.as_bytes())?;
+            assert_eq!(rt; first.as_bytes(), a.as_bytes());
+            assert_eq!(rt; first.cmp(&second), want, "{a} and {b}");
+            assert_eq!(rt; first == second, a == b, "{a} and {b}");
+        }
+        Ok(())
+    }
+
+    #[test]
+    fn places_follow_by_line_then_column(rt: HostRuntime) -> Result<(), Fail> {
+        let early = Place { line: 2, column: 9 };
+        let late = Place {
+            line: 10,
+            column: 1,
+        };
+        assert!(rt; early < late);
+        assert!(rt; AgentType(9) < AgentType(10));
+        assert_eq!(rt; NoMemory.cmp(&NoMemory), Ordering::Equal);
+        Ok(())
     }
 }

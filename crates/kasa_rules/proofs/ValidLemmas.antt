@@ -112,8 +112,8 @@ module _ (sig : List TypeEntry) (r : RuleParts) (cells : List ℕ) (m : List (Op
             let new = some_map (made_site_after cells (length m)) (slice_get b.1.sites s) x (sym (slice_get-map (made_site_after cells (length m)) b.1.sites s) ∙ at_s) in
             let made : made_site r b.0 s ≡ Some new.0 = ap (λ (o : Option MadeAgent). option_and_then (λ (a : MadeAgent). slice_get a.sites s) o) b.2 ∙ new.1 in
             subst IsAgentSite new.2 (record {
-              within = λ u f. rule.made_within b.0 s u new.0 made f;
-              given = λ h. some_is new.0.state (rule.made_given b.0 s new.0 made h);
+              within = λ u f. rule.is_rule.made_within b.0 s u new.0 made f;
+              given = λ h. some_is new.0.state (rule.is_rule.made_given b.0 s new.0 made h);
             })
       ]
 

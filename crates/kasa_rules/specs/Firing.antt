@@ -1,5 +1,5 @@
 -- The mixture after a rule fired on a list of cells, one per left node.
-use Rattle.std.specs.Prelude.{ℕ, zero, suc, ◌+◌, Bool, true, false, List, [], ◌∷◌, ◌++◌, length, map, Option, Some, None, slice_get, nat_eq, option_map, option_and_then}
+use Rattle.std.specs.Prelude.{◌≡◌, ◌≢◌, ◌⊎◌, ℕ, zero, suc, ◌+◌, Bool, true, false, List, [], ◌∷◌, ◌++◌, length, map, Option, Some, None, slice_get, nat_eq, option_map, option_and_then}
 use Rattle.std.specs.Option.{option_map_or}
 use Rattle.kasa_graph.specs.declared.mixture.Agent.{Agent}
 use Rattle.kasa_graph.specs.declared.mixture.AgentSite.{AgentSite}
@@ -95,3 +95,12 @@ made_after cells first a = Some (record { agent = a.agent; sites = map (made_sit
 -- the mixture after the firing
 unfoldable pub fire : RuleParts → List ℕ → List (Option Agent) → List (Option Agent)
 fire r cells m = map_from zero (cell_after r cells (length m)) m ++ map (made_after cells (length m)) r.made
+
+-- no left node lies on the cell
+abbrev pub IsElsewhere : List ℕ → ℕ → Type 0
+IsElsewhere cells c = (n : ℕ) → slice_get cells n ≢ Some c
+
+-- a partner stays, or is lost since its site is touched
+abbrev pub KeepsPartner : RuleParts → List ℕ → Option (ℕ × ℕ) → Option (ℕ × ℕ) → Type 0
+KeepsPartner r cells None after = after ≡ None
+KeepsPartner r cells (Some p) after = (after ≡ Some p) ⊎ ((touched_on r cells p.0 p.1 ≡ true) × (after ≡ None))

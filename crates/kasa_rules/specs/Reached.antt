@@ -1,11 +1,11 @@
 -- The mixtures that a model reaches.
-use Rattle.std.specs.Prelude.{◌≡◌, ℕ, List, [], ◌∷◌, Option, Some, slice_get}
+use Rattle.std.specs.Prelude.{◌≡◌, ℕ, ◌≤◌, List, [], ◌∷◌, length, Option, Some, slice_get}
 use Rattle.std.specs.Option.{option_map_or}
 use Rattle.kasa_graph.specs.declared.mixture.Agent.{Agent}
 use Rattle.kasa_graph.specs.Mixture.{beside, IsMixtureOver}
 use Rattle.kasa_graph.specs.Embedding.{IsEmbedding}
 use Rattle.kasa_rules.specs.declared.model.Model.{Model}
-use Rattle.kasa_rules.specs.Rule.{RuleParts, IsRuleOver}
+use Rattle.kasa_rules.specs.Rule.{RuleParts, IsRuleOver, HasFewAgents}
 use Rattle.kasa_rules.specs.Firing.{fire}
 
 -- one atomic step: the rule of this number fires on these cells
@@ -36,3 +36,10 @@ pub record Reached (model : Model) (m : List (Option Agent)) : Type 0 where
 pub record IsModel (model : Model) : Type 0 where
   pub inits : (i : ℕ) (m : List (Option Agent)) → slice_get model.inits i ≡ Some m → IsMixtureOver model.sig m
   pub rules : (k : ℕ) (r : RuleParts) → slice_get model.rules k ≡ Some r → IsRuleOver model.sig r
+
+-- at most 1,000 complexes of at most 200 cells, and 2,000 rules with few agents
+pub record IsWithinLimits (model : Model) : Type 0 where
+  pub few_inits : length model.inits ≤ 1000
+  pub few_cells : (i : ℕ) (m : List (Option Agent)) → slice_get model.inits i ≡ Some m → length m ≤ 200
+  pub few_rules : length model.rules ≤ 2000
+  pub few_agents : (k : ℕ) (r : RuleParts) → slice_get model.rules k ≡ Some r → HasFewAgents r

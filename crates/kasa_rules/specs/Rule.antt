@@ -1,5 +1,5 @@
 -- Rules: a left pattern, what becomes of its nodes, and the agents that are created.
-use Rattle.std.specs.Prelude.{◌≡◌, ◌≢◌, ℕ, ◌<◌, Bool, true, List, length, map, Option, Some, None, is_some, slice_get, option_map, option_and_then}
+use Rattle.std.specs.Prelude.{◌≡◌, ◌≢◌, ℕ, ◌<◌, ◌≤◌, Bool, true, List, length, map, Option, Some, None, is_some, slice_get, option_map, option_and_then}
 use Rattle.std.specs.Option.{option_map_or}
 use Rattle.kasa_graph.specs.declared.pattern.Node.{Node}
 use Rattle.kasa_graph.specs.Signature.{TypeEntry}
@@ -71,24 +71,42 @@ end_link r (Made k) s = option_map (λ x. x.link) (made_site r k s)
 
 -- ---- what makes a rule
 
--- a written link is free or leads to a kept or a created node; it is mutual and never leads to itself
-pub record IsRule (r : RuleParts) : Type 0 where
+-- a written link is free or leads to a kept or a created node; it is mutual and never leads to itself; a created agent has all its states
+pub record IsDraft (r : RuleParts) : Type 0 where
   pub left : IsPattern r.left
   pub actions : length r.actions ≡ length r.left
   pub deleted_state : (n s : ℕ) → fate_at r n ≡ Some Deleted → written_state r n s ≡ None
   pub deleted_link : (n s : ℕ) → fate_at r n ≡ Some Deleted → written_link r n s ≡ None
   pub both_ways : (e f : End) (s t : ℕ) → end_link r e s ≡ Some (To f t) → end_link r f t ≡ Some (To e s)
   pub apart : (e : End) (s : ℕ) → end_link r e s ≢ Some (To e s)
-  -- a bond of the left pattern is touched at both ends or at neither
-  pub whole_bonds : (n s m t : ℕ) → link_test r.left n s ≡ To m t → touched r n s ≡ touched r m t
+  pub made_within : (k s u : ℕ) (x : MadeSite) → made_site r k s ≡ Some x → x.state ≡ Some u → u < x.states
+  pub made_given : (k s : ℕ) (x : MadeSite) → made_site r k s ≡ Some x → 0 < x.states → (u : ℕ) × (x.state ≡ Some u)
 
--- the numbers of a rule exist in the signature, and its nodes have just the sites of their types
-pub record IsRuleOver (sig : List TypeEntry) (r : RuleParts) : Type 0 where
-  pub is_rule : IsRule r
+-- a bond of the left pattern is touched at both ends or at neither
+abbrev pub HasWholeBonds : RuleParts → Type 0
+HasWholeBonds r = (n s m t : ℕ) → link_test r.left n s ≡ To m t → touched r n s ≡ touched r m t
+
+-- a rule is a draft with whole bonds
+pub record IsRule (r : RuleParts) : Type 0 where
+  pub draft : IsDraft r
+  pub open draft use *
+  pub whole_bonds : HasWholeBonds r
+
+-- the numbers of a draft exist in the signature, and its nodes have just the sites of their types
+pub record IsDraftOver (sig : List TypeEntry) (r : RuleParts) : Type 0 where
   pub left : IsPatternOver sig r.left
   pub action_sites : (n a : ℕ) (x : NodeAction) → slice_get r.actions n ≡ Some x → agent_at r.left n ≡ Some a → length x.sites ≡ length (state_counts sig a)
   pub written_states : (n s u a : ℕ) → agent_at r.left n ≡ Some a → written_state r n s ≡ Some u → HasState sig a s u
   pub made_types : (k a : ℕ) → made_type r k ≡ Some a → a < length sig
   pub made_sites : (k : ℕ) (x : MadeAgent) → slice_get r.made k ≡ Some x → map (λ s. s.states) x.sites ≡ state_counts sig x.agent
-  pub made_within : (k s u : ℕ) (x : MadeSite) → made_site r k s ≡ Some x → x.state ≡ Some u → u < x.states
-  pub made_given : (k s : ℕ) (x : MadeSite) → made_site r k s ≡ Some x → 0 < x.states → (u : ℕ) × (x.state ≡ Some u)
+
+-- the same of a rule
+pub record IsRuleOver (sig : List TypeEntry) (r : RuleParts) : Type 0 where
+  pub is_rule : IsRule r
+  pub over : IsDraftOver sig r
+  pub open over use *
+
+-- at most 12 left nodes, and at most 12 created agents
+pub record HasFewAgents (r : RuleParts) : Type 0 where
+  pub few_left : length r.left ≤ 12
+  pub few_made : length r.made ≤ 12

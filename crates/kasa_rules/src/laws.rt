@@ -1,12 +1,12 @@
 //! Laws of firings and of what a model reaches.
 
-ghost use Rattle.std.specs.Prelude.{ℕ, List, Option};
+ghost use Rattle.std.specs.Prelude.{◌≡◌, ◌<◌, ℕ, List, Option, length};
 ghost use Rattle.kasa_graph.specs.declared.mixture.Agent.{Agent};
 ghost use Rattle.kasa_graph.specs.Signature.{TypeEntry};
-ghost use Rattle.kasa_graph.specs.Mixture.{IsMixtureOver};
+ghost use Rattle.kasa_graph.specs.Mixture.{type_in, state_in, partner_in, IsMixtureOver};
 ghost use Rattle.kasa_graph.specs.Embedding.{IsEmbedding};
 ghost use Rattle.kasa_rules.specs.Rule.{RuleParts, IsRuleOver};
-ghost use Rattle.kasa_rules.specs.Firing.{fire};
+ghost use Rattle.kasa_rules.specs.Firing.{fire, IsElsewhere, KeepsPartner};
 ghost use Rattle.kasa_rules.specs.declared.model.Model.{Model};
 ghost use Rattle.kasa_rules.specs.Reached.{Reached, IsModel};
 
@@ -18,4 +18,12 @@ pub fn firing_keeps_validity()
 /// What a model reaches is valid over its signature.
 pub fn reached_mixtures_are_valid()
     ensures { (model : Model) (m : List (Option Agent)) → IsModel model → Reached model m → IsMixtureOver model.sig m }
+{}
+
+/// The cells on which no left node lies keep their agents' types and states, and lose at most the partners whose sites are
+/// touched.
+pub fn other_cells_keep_their_agents()
+    ensures types { (r : RuleParts) (cells : List ℕ) (m : List (Option Agent)) (c : ℕ) → c < length m → IsElsewhere cells c → type_in (fire r cells m) c ≡ type_in m c }
+    ensures states { (r : RuleParts) (cells : List ℕ) (m : List (Option Agent)) (c : ℕ) → c < length m → IsElsewhere cells c → (s : ℕ) → state_in (fire r cells m) c s ≡ state_in m c s }
+    ensures partners { (r : RuleParts) (cells : List ℕ) (m : List (Option Agent)) (c : ℕ) → c < length m → IsElsewhere cells c → (s : ℕ) → KeepsPartner r cells (partner_in m c s) (partner_in (fire r cells m) c s) }
 {}

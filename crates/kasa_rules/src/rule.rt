@@ -1,6 +1,14 @@
 // Rules: what they test, delete, write and create.
-use kasa_graph::Pattern;
-use kasa_num::{AgentType, Name, NodeNo, SiteNo, StateNo};
+ghost use Rattle.std.specs.Prelude.{◌≡◌, ◌<◌, ◌≤◌, length, Some, IsSome, IfOk, is_some, map, replicate, slice_get, option_map, option_and_then};
+ghost use Rattle.kasa_graph.specs.Lists.{update};
+ghost use Rattle.kasa_graph.specs.Signature.{state_counts};
+ghost use Rattle.kasa_graph.specs.Pattern.{HasNodeSite};
+ghost use Rattle.kasa_rules.specs.Draft.{no_action, first_state, new_site};
+ghost use Rattle.kasa_rules.specs.Rule.{fate_at, written_state, written_link, made_type, made_site, made_state, made_link, touches, touched};
+
+use kasa_graph::{Pattern, Signature};
+use kasa_num::{AgentType, Name, NoMemory, NodeNo, SiteNo, StateNo};
+use std::alloc::Global;
 use std::marker;
 
 /// What becomes of a left node.
@@ -46,6 +54,58 @@ impl marker::Model for SiteActions {
     ghost view = { λ a. a.items.items };
 }
 
+impl SiteActions {
+    // Nothing is written at so many sites.
+    pub(crate) fn none(alloc: Global, count: usize) -> Result<SiteActions, NoMemory>
+        ensures { IfOk result (λ sites. sites ≡ replicate count no_action) }
+    {
+        let mut items = Vec::new(alloc);
+        for _ in 0..count {
+            items.push(SiteAction {
+                state: None,
+                link: None,
+            })?;
+        }
+        Ok(SiteActions { items })
+    }
+
+    pub(crate) fn len(&self) -> usize
+        ensures { result ≡ length self.now }
+    {
+        self.items.len()
+    }
+
+    // Whether a link is written at a site.
+    pub(crate) fn has_link(&self, site: usize) -> bool
+        ensures { result ≡ is_some (option_and_then (λ x. x.link) (slice_get self.now site)) }
+    {
+        match self.items.get(site) {
+            None => false,
+            Some(action) => action.link.is_some(),
+        }
+    }
+
+    pub(crate) fn set_state(&mut self, site: usize, state: StateNo)
+        requires { site < length self.old }
+        ensures { self.new ≡ update self.old site (λ x. record x { state = Some state }) }
+    {
+        self.items[site].state = Some(state);
+    }
+
+    pub(crate) fn set_link(&mut self, site: usize, link: Written)
+        requires { site < length self.old }
+        ensures { self.new ≡ update self.old site (λ x. record x { link = Some link }) }
+    {
+        self.items[site].link = Some(link);
+    }
+
+    fn get(&self, site: usize) -> Option<SiteAction>
+        ensures { result ≡ slice_get self.now site }
+    {
+        self.items.get(site).copied()
+    }
+}
+
 /// What a rule does to a left node.
 #[derive(Drop)]
 pub struct NodeAction {
@@ -76,6 +136,56 @@ impl marker::Model for MadeSites {
     ghost view = { λ a. a.items.items };
 }
 
+// The first of so many states.
+fn first_of(states: u8) -> Option<StateNo>
+    ensures { result ≡ first_state states }
+{
+    if states == 0 { None } else { Some(StateNo(0)) }
+}
+
+impl MadeSites {
+    // The sites of a type, free, each in the first of its states.
+    pub(crate) fn first(
+        alloc: Global,
+        sig: &Signature,
+        agent: AgentType,
+    ) -> Result<MadeSites, NoMemory>
+        ensures { IfOk result (λ sites. sites ≡ map new_site (state_counts sig.now agent)) }
+    {
+        let mut items = Vec::new(alloc);
+        for site in 0..sig.sites(agent) {
+            let states = sig.states(agent, SiteNo(site as u8)) as u8;
+            items.push(MadeSite {
+                states,
+                state: first_of(states),
+                link: Written::Free,
+            })?;
+        }
+        Ok(MadeSites { items })
+    }
+
+    pub(crate) fn set_state(&mut self, site: usize, state: StateNo)
+        requires { site < length self.old }
+        ensures { self.new ≡ update self.old site (λ x. record x { state = Some state }) }
+    {
+        self.items[site].state = Some(state);
+    }
+
+    pub(crate) fn set_link(&mut self, site: usize, link: Written)
+        requires { site < length self.old }
+        ensures { self.new ≡ update self.old site (λ x. record x { link = link }) }
+    {
+        self.items[site].link = link;
+    }
+
+    fn get(&self, site: usize) -> MadeSite
+        requires { site < length self.now }
+        ensures { slice_get self.now site ≡ Some result }
+    {
+        self.items[site]
+    }
+}
+
 /// A created agent.
 #[derive(Drop)]
 pub struct MadeAgent {
@@ -86,18 +196,131 @@ pub struct MadeAgent {
 /// A rule: a left pattern, what becomes of its nodes, and the agents that it creates.
 #[derive(Drop)]
 pub struct Rule {
-    name: Name,
-    left: Pattern,
-    actions: Vec<NodeAction>,
-    made: Vec<MadeAgent>,
+    pub(crate) name: Name,
+    pub(crate) left: Pattern,
+    pub(crate) actions: Vec<NodeAction>,
+    pub(crate) made: Vec<MadeAgent>,
 }
 
 impl marker::Model for Rule {
-    ghost use Rattle.kasa_rules.specs.Rule.{RuleParts, IsRule};
+    ghost use Rattle.kasa_rules.specs.Rule.{RuleParts, IsRule, HasFewAgents};
 
     ghost Value = { RuleParts };
 
     ghost view = { λ r. record { name = r.name; left = r.left; actions = r.actions.items; made = r.made.items } };
 
-    ghost invariant = { λ r. IsRule (record { name = r.name; left = r.left; actions = r.actions.items; made = r.made.items }) };
+    ghost invariant = { λ r. let rule : RuleParts = record { name = r.name; left = r.left; actions = r.actions.items; made = r.made.items } in IsRule rule × HasFewAgents rule };
+}
+
+// What is written at a site of a left node.
+fn find_action(actions: &[NodeAction], node: NodeNo, site: SiteNo) -> Option<SiteAction>
+    ensures { result ≡ option_and_then (λ a. slice_get a.sites site) (slice_get actions.now node) }
+{
+    match actions.get(node.0 as usize) {
+        None => None,
+        Some(action) => action.sites.get(site.0 as usize),
+    }
+}
+
+// Whether a site of a left node is touched.
+pub(crate) fn is_touched(actions: &[NodeAction], node: NodeNo, site: SiteNo) -> bool
+    ensures { result ≡ touches (option_map (λ a. a.fate) (slice_get actions.now node)) (option_and_then (λ x. x.link) (option_and_then (λ a. slice_get a.sites site) (slice_get actions.now node))) }
+{
+    match actions.get(node.0 as usize) {
+        None => false,
+        Some(action) => match action.fate {
+            Fate::Deleted => true,
+            Fate::Kept => action.sites.has_link(site.0 as usize),
+        },
+    }
+}
+
+impl Rule {
+    /// The bytes of the rule's name, none where it has no name. It takes no memory.
+    pub fn name(&self) -> &[u8]
+        ensures { result.now ≡ self.now.name }
+    {
+        self.name.as_bytes()
+    }
+
+    /// The left pattern, of at most 12 nodes: where it is embedded, the rule fires. It takes no memory.
+    pub fn left(&self) -> &Pattern
+        ensures pattern { result.now ≡ self.now.left }
+        ensures few { length self.now.left ≤ 12 }
+    {
+        &self.left
+    }
+
+    /// Whether a left node is deleted or kept. It takes no memory.
+    pub fn fate(&self, node: NodeNo) -> Fate
+        requires { node < length self.now.left }
+        ensures { fate_at self.now node ≡ Some result }
+    {
+        self.actions[node.0 as usize].fate
+    }
+
+    /// The state that is written at a site of a left node. It takes no memory.
+    pub fn written_state(&self, node: NodeNo, site: SiteNo) -> Option<StateNo>
+        requires { HasNodeSite self.now.left node site }
+        ensures { result ≡ written_state self.now node site }
+    {
+        match find_action(&self.actions, node, site) {
+            None => None,
+            Some(action) => action.state,
+        }
+    }
+
+    /// The link that is written at a site of a left node. It takes no memory.
+    pub fn written_link(&self, node: NodeNo, site: SiteNo) -> Option<Written>
+        requires { HasNodeSite self.now.left node site }
+        ensures { result ≡ written_link self.now node site }
+    {
+        match find_action(&self.actions, node, site) {
+            None => None,
+            Some(action) => action.link,
+        }
+    }
+
+    /// How many agents are created, at most 12. It takes no memory.
+    pub fn made(&self) -> usize
+        ensures count { result ≡ length self.now.made }
+        ensures few { result ≤ 12 }
+    {
+        self.made.len()
+    }
+
+    /// The type of a created agent. It takes no memory.
+    pub fn made_type(&self, k: u16) -> AgentType
+        requires { k < length self.now.made }
+        ensures { made_type self.now k ≡ Some result }
+    {
+        self.made[k as usize].agent
+    }
+
+    /// The state of a site of a created agent, none where the site has no states. It takes no memory.
+    pub fn made_state(&self, k: u16, site: SiteNo) -> Option<StateNo>
+        requires { IsSome (made_site self.now k site) }
+        ensures { result ≡ made_state self.now k site }
+    {
+        self.made[k as usize].sites.get(site.0 as usize).state
+    }
+
+    /// The link of a site of a created agent. It takes no memory.
+    pub fn made_link(&self, k: u16, site: SiteNo) -> Written
+        requires { IsSome (made_site self.now k site) }
+        ensures { result ≡ made_link self.now k site }
+    {
+        self.made[k as usize].sites.get(site.0 as usize).link
+    }
+}
+
+/// Whether a site of the left pattern is touched: its node is deleted, or its link is written. It takes no memory.
+pub fn touched(rule: &Rule, node: NodeNo, site: SiteNo) -> bool
+    requires { HasNodeSite rule.now.left node site }
+    ensures { result ≡ touched rule.now node site }
+{
+    match rule.fate(node) {
+        Fate::Deleted => true,
+        Fate::Kept => rule.written_link(node, site).is_some(),
+    }
 }

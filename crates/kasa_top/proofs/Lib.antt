@@ -1,3 +1,8 @@
+pub mod OneAgentLemmas
+pub mod GateRules
+pub mod PlanLists
+pub mod PlanSteps
+pub mod ViewOrder
 pub mod CutLemmas
 pub mod EachLemmas
 pub mod PartLemmas
@@ -7,3 +12,17 @@ pub mod BuildLemmas
 pub mod NumberLemmas
 pub mod GateLemmas
 pub mod TextLemmas
+pub mod BeforeRow
+pub mod HeldLemmas
+pub mod InitialRows
+pub mod RoundLemmas
+pub mod RowsOver
+pub mod SiteLemmas
+pub mod ViewRows
+pub mod YieldedRows
+pub mod SectionLemmas
+pub mod Written
+pub mod WordLemmas
+pub mod FetchedLemmas
+pub mod OutcomeLemmas
+pub mod ReportLemmas

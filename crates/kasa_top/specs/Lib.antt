@@ -1,5 +1,15 @@
 pub mod Gate
+pub mod LineText
+pub mod Status
+pub mod Words
+pub mod GatePlan
+pub mod Plan
 pub mod GateLines
 pub mod GateText
 pub mod GateReading
 pub mod GateNumbers
+pub mod Rounds
+pub mod LemmasText
+pub mod Outcome
+pub mod Fetched
+pub mod Sound

@@ -3,5 +3,15 @@
 
 mod gate;
 pub mod laws;
+mod least;
+mod lemmas;
+mod plan;
+mod program;
 mod reader;
+mod status;
 mod tables;
+#[cfg(test)]
+mod tests;
+
+pub use program::run;
+pub use status::Status;

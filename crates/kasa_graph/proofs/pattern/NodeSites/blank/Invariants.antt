@@ -1,4 +1,4 @@
-use Rattle.std.proofs.Common.{◌≡◌, map, length, take}
+use Rattle.std.proofs.Common.{◌≡◌, map, take}
 use Rattle.kasa_graph.specs.Pattern.{blank_site}
 use Rattle.kasa_graph.specs.Signature.{state_counts}
 use Rattle.kasa_graph.proofs.pattern.NodeSites.blank.Given as goal

@@ -1,0 +1,4 @@
+pub mod Causes
+pub mod Shelf
+pub mod ShelfMem
+pub mod SinkMem

@@ -1,0 +1,16 @@
+use Rattle.std.proofs.Common.{◌≤◌, ◌<◌, length, map, ap, ◌∙◌, arith}
+use Rattle.kasa_graph.specs.Signature.{sites_of}
+use Rattle.kasa_graph.proofs.SignatureLemmas.{counts_more, counts_all, map-push}
+use Rattle.kasa_rules.specs.Draft.{new_site}
+use Rattle.kasa_rules.proofs.rule.MadeSites.first.Goals as goal
+
+pub loop-site-preserved : goal.loop-site-preserved
+loop-site-preserved c =
+    let within : c.loop-site.site < length (sites_of c.args.sig.now c.args.agent) = omega arith in
+    c.in_ok-push.ensures.items ∙ rw (c.loop-site.invariant, counts_more c.args.sig.now c.args.agent c.loop-site.site c.states-states.result within c.states-states.ensures.count)
+    (rw (map-push new_site, c.first_of.ensures))
+
+pub returns : goal.returns
+returns c =
+    let all : length (sites_of c.args.sig.now c.args.agent) ≤ c.loop-site.site = omega arith in
+    c.loop-site.invariant ∙ ap (λ xs. map new_site xs) (counts_all c.args.sig.now c.args.agent c.loop-site.site all)

@@ -1,0 +1,7 @@
+use Rattle.std.specs.Prelude.{Some}
+use Rattle.kasa_rules.specs.declared.rule.SiteAction.{SiteAction}
+use Rattle.kasa_rules.proofs.ListUpdates.{slice_set-at}
+use Rattle.kasa_rules.proofs.rule.SiteActions.set_link.Goals as goal
+
+pub returns : goal.returns
+returns c = rw (← c.self.view_is) (slice_set-at c.self.inside.items.items c.args.site c.index_mut.result.now (λ (x : SiteAction). record x { link = Some c.args.link }) c.index_mut.ensures.value (rw (← c.self.view_is) at c.requires))

@@ -1,0 +1,29 @@
+-- What a printed report says of every mixture that its model reaches.
+use Rattle.std.specs.Prelude.{◌≡◌, ℕ, List, ◌++◌, Option, option_map}
+use Rattle.kasa_edge.specs.Shelf.{Held}
+use Rattle.kasa_graph.specs.declared.mixture.Agent.{Agent}
+use Rattle.kasa_graph.specs.Lists.{Has}
+use Rattle.kasa_families.specs.declared.family.Family.{Family}
+use Rattle.kasa_families.specs.Table.{families_of}
+use Rattle.kasa_pre.specs.Closed.{LemmaHolds}
+use Rattle.kasa_rules.specs.Reached.{Reached}
+use Rattle.kasa_top.specs.Gate.{model_of}
+use Rattle.kasa_top.specs.Outcome.{IsHeldAs, IsReportOf}
+use Rattle.kasa_top.specs.Words.{IsAnalyse}
+
+-- the lemma of each family of the report's tables, printed or not, holds in each mixture that the report's model reaches
+abbrev pub IsSound : (text printed : List ℕ) → IsReportOf text printed → Type 0
+IsSound text printed report =
+    (m : List (Option Agent)) → Reached (model_of report.gate) m →
+    (family : Family) → Has (families_of report.tables) family → LemmaHolds report.gate.sig report.tables family m
+
+-- the sink took a sound report of the text that is held under the name that the words give
+pub record TakesSoundReport (words : List (List ℕ)) (held : Held) (old new : Option (List ℕ)) : Type 0 where
+  pub name : List ℕ
+  pub text : List ℕ
+  pub printed : List ℕ
+  pub command : IsAnalyse words name
+  pub is_held : IsHeldAs held name text
+  pub report : IsReportOf text printed
+  pub taken : new ≡ option_map (λ t. t ++ printed) old
+  pub sound : IsSound text printed report

@@ -1,0 +1,165 @@
+// The one public call: words and texts in, a status and the printed text out.
+ghost use Rattle.std.specs.Prelude.{◌≡◌, ◌≢◌, ◌≤◌, ◌<◌, ◌+◌, ◌++◌, ◌⊎◌, ℕ, length, map, take, drop, IsTrue, ◌↔◌, IfOk, IfErr, OnOk, OnErr, MatchOption, MatchResult, Some, None, option_map, string_bytes, codes};
+ghost use Rattle.kasa_edge.specs.Causes.{Rose};
+ghost use Rattle.kasa_edge.specs.Shelf.{held_at};
+ghost use Rattle.kasa_top.specs.Outcome.{Ends, IsNotRead, IsOutcome, IsReportOf};
+ghost use Rattle.kasa_top.specs.Words.{IsAnalyse, IsTextName};
+ghost use Rattle.kasa_top.specs.Fetched.{Fetched};
+ghost use Rattle.kasa_top.specs.Sound.{TakesSoundReport};
+ghost use Rattle.kasa_top.specs.Status.{fixed_text};
+
+use crate::Status;
+use crate::least::solve;
+use crate::lemmas::lemmas_section;
+use crate::plan::plan;
+use crate::reader::read_gate;
+use kasa_edge::{Failed, FetchFault, Shelf, Sink};
+use std::alloc::Global;
+
+/// The most bytes of a model's text: 4 MiB.
+const MOST: usize = 4_194_304;
+
+// A word that may name a text: it is not empty, and doesn't begin with `-` as flags do.
+fn is_text_name(word: &str) -> bool
+    ensures { IsTrue result ↔ IsTextName word.now }
+{
+    match word.as_bytes() {
+        [] => false,
+        [first, ..] => *first != b'-',
+    }
+}
+
+// The word of the one command that is served so far.
+fn is_command(word: &str) -> bool
+    ensures { IsTrue result ↔ (word.now ≡ codes "analyse") }
+{
+    word == "analyse"
+}
+
+// The name of the model's text, where the words are those of `analyse`.
+fn model_name(words: &[String]) -> Option<&str>
+    ensures { MatchOption result ((name : _) → ¬ IsAnalyse (map string_bytes words.now) name) (λ name. IsAnalyse (map string_bytes words.now) name.now) }
+{
+    match words {
+        [command, name] if is_command(command.as_str()) && is_text_name(name.as_str()) => {
+            Some(name.as_str())
+        }
+        _ => None,
+    }
+}
+
+// The model's text. Of a longer one than is read, one byte too many.
+fn fetch_model<S: Shelf>(shelf: &mut S, name: &str) -> Result<Vec<u8>, Status>
+    ensures text { IfOk result (λ text. Fetched (S.held shelf.old) name.now text.items) }
+    ensures refused { IfErr result (λ status. (status ≡ Status.NoMemory) ⊎ ((status ≡ Status.ReadFault) × (Rose (S.read_faults shelf.old) (S.read_faults shelf.new) ⊎ (held_at (S.held shelf.old) name.now ≡ Some None)))) }
+    ensures same { S.held shelf.new ≡ S.held shelf.old }
+{
+    match shelf.fetch(name, MOST) {
+        Ok(text) => Ok(text),
+        Err(FetchFault::Failed) => Err(Status::ReadFault),
+        Err(FetchFault::NoMemory) => Err(Status::NoMemory),
+    }
+}
+
+// The report of a model's text.
+fn report(alloc: Global, text: &[u8]) -> Result<Vec<u8>, Status>
+    ensures report { IfOk result (λ printed. IsReportOf text.now printed.items) }
+    ensures refused { IfErr result (λ status. (status ≡ Status.NoMemory) ⊎ ((status ≡ Status.NotRead) × IsNotRead text.now)) }
+{
+    if text.len() > MOST {
+        return Err(Status::NotRead);
+    }
+    let Some(gate) = read_gate(alloc, text)? else {
+        return Err(Status::NotRead);
+    };
+    let families = plan(alloc, &gate)?;
+    let tables = solve(alloc, &gate, families)?;
+    Ok(lemmas_section(alloc, &gate.sig, &tables)?)
+}
+
+// The report that is due, or the status without one.
+fn answer<S: Shelf>(alloc: Global, words: &[String], shelf: &mut S) -> Result<Vec<u8>, Status>
+    ensures report { IfOk result (λ text. IsOutcome (map string_bytes words.now) (S.held shelf.old) (Rose (S.read_faults shelf.old) (S.read_faults shelf.new)) Status.Done text.items) }
+    ensures refused { IfErr result (λ status. (status ≡ Status.NoMemory) ⊎ IsOutcome (map string_bytes words.now) (S.held shelf.old) (Rose (S.read_faults shelf.old) (S.read_faults shelf.new)) status (fixed_text status)) }
+    ensures same { S.held shelf.new ≡ S.held shelf.old }
+{
+    let Some(name) = model_name(words) else {
+        return Err(Status::BadWords);
+    };
+    let text = fetch_model(shelf, name)?;
+    report(alloc, text.as_slice())
+}
+
+// Writes some of what stands at and behind a place.
+fn write_from<O: Sink>(out: &mut O, text: &[u8], at: usize) -> Result<usize, Failed>
+    requires { at < length text.now }
+    ensures some { IfOk result (λ n. 0 < n) }
+    ensures within { IfOk result (λ n. at + n ≤ length text.now) }
+    ensures taken { IfOk result (λ n. O.taken out.new ≡ option_map (λ t. t ++ take n (drop at text.now)) (O.taken out.old)) }
+    ensures err { OnErr result (O.taken out.new ≡ O.taken out.old) }
+    ensures failed { OnErr result (Rose (O.faults out.old) (O.faults out.new)) }
+    ensures later { O.faults out.old ≤ O.faults out.new }
+{
+    out.write(&text[at..])
+}
+
+// Writes the whole text. It takes no memory. Where a write fails, a part of the text is taken, not all of it.
+fn write_all<O: Sink>(out: &mut O, text: &[u8]) -> Result<(), Failed>
+    ensures ok { OnOk result (O.taken out.new ≡ option_map (λ t. t ++ text.now) (O.taken out.old)) }
+    ensures part { OnErr result ((n : ℕ) × (n < length text.now) × (O.taken out.new ≡ option_map (λ t. t ++ take n text.now) (O.taken out.old))) }
+    ensures failed { OnErr result (Rose (O.faults out.old) (O.faults out.new)) }
+    ensures later { O.faults out.old ≤ O.faults out.new }
+{
+    let mut at = 0;
+    while at < text.len() {
+        let n = write_from(out, text, at)?;
+        at += n;
+    }
+    Ok(())
+}
+
+// Writes the text due with a status. A fault of writing wins over every other status.
+fn finish<O: Sink>(out: &mut O, text: &[u8], status: Status) -> Status
+    requires written { status ≢ Status.WriteFault }
+    ensures ok { result ≢ Status.WriteFault → (result ≡ status) × (O.taken out.new ≡ option_map (λ t. t ++ text.now) (O.taken out.old)) }
+    ensures part { result ≡ Status.WriteFault → (n : ℕ) × (n < length text.now) × (O.taken out.new ≡ option_map (λ t. t ++ take n text.now) (O.taken out.old)) }
+    ensures failed { result ≡ Status.WriteFault → Rose (O.faults out.old) (O.faults out.new) }
+{
+    match write_all(out, text) {
+        Ok(()) => status,
+        Err(Failed) => Status::WriteFault,
+    }
+}
+
+// Makes the text due and writes it.
+fn answer_and_print<S: Shelf, O: Sink>(
+    alloc: Global,
+    words: &[String],
+    shelf: &mut S,
+    out: &mut O,
+) -> Status
+    ensures ends { Ends (map string_bytes words.now) (S.held shelf.old) (Rose (S.read_faults shelf.old) (S.read_faults shelf.new)) (Rose (O.faults out.old) (O.faults out.new)) result (O.taken out.old) (O.taken out.new) }
+    ensures same { S.held shelf.new ≡ S.held shelf.old }
+{
+    match answer(alloc, words, shelf) {
+        Ok(text) => finish(out, text.as_slice(), Status::Done),
+        Err(Status::NoMemory) => Status::NoMemory,
+        Err(status) => finish(out, status.text(), status),
+    }
+}
+
+/// Does what the words ask for, over the texts of a shelf, and prints to a sink. `analyse MODEL` prints what the sites of
+/// each agent can never hold together, as the least closed tables of the planned views, which are orthogonal pattern
+/// sets after Feret and Ly. The status says how it ended; the text due is made whole before any of it is written.
+pub fn run<S: Shelf, O: Sink>(
+    alloc: Global,
+    words: &[String],
+    shelf: &mut S,
+    out: &mut O,
+) -> Status
+    ensures ends { Ends (map string_bytes words.now) (S.held shelf.old) (Rose (S.read_faults shelf.old) (S.read_faults shelf.new)) (Rose (O.faults out.old) (O.faults out.new)) result (O.taken out.old) (O.taken out.new) }
+    ensures sound { result ≡ Status.Done → TakesSoundReport (map string_bytes words.now) (S.held shelf.old) (O.taken out.old) (O.taken out.new) }
+    ensures same { S.held shelf.new ≡ S.held shelf.old }
+{
+    answer_and_print(alloc, words, shelf, out)
+}
