@@ -1,15 +1,14 @@
 -- A signature that is built name by name.
-use Rattle.std.proofs.Common.{◌≡◌, ◌≢◌, ◌==◌, ℕ, zero, suc, ◌+◌, ◌<◌, ◌≤◌, Bool, true, false, ◌||◌, ◌&&◌, List, [], ◌∷◌, ◌++◌, length, map, take, Option, Some, None, refl, sym, ap, ◌∙◌, subst, ◌⊎◌, inl, inr, arith, append_assoc, length-append, get_or}
+use Rattle.std.proofs.Common.{◌≡◌, ℕ, zero, suc, ◌+◌, ◌<◌, ◌≤◌, Bool, true, false, List, [], ◌∷◌, ◌++◌, length, map, take, Option, Some, None, refl, sym, ap, ◌∙◌, ◌⊎◌, inl, inr, arith, append_assoc, get_or}
 use Rattle.std.specs.Prelude.{slice_get, option_map, MatchOption, MatchBool, is_some, Result, IfOk}
 use Rattle.std.proofs.lemmas.Result.{IfOk-weaker}
-use Rattle.std.specs.Option.{option_map_or}
 use Rattle.std.specs.List.{AllByRecursion, list_all}
 use Rattle.std.proofs.lemmas.Bool.{and_parts, or_cases, leb-true}
 use Rattle.std.proofs.lemmas.List.{append-nil, take_more, take-map, map_push, length_push, length-map, length-take}
 use Rattle.std.proofs.lemmas.Option.{slice_get-get_or, slice_get-map, slice_get_within}
 use Rattle.kasa_graph.specs.Lists.{update, Has, AllDifferent}
-use Rattle.kasa_graph.specs.Signature.{SiteEntry, TypeEntry, type_names, site_names, sites_of, state_names, state_counts, HasSite, IsNameByte, IsName}
-use Rattle.kasa_graph.proofs.ListLemmas.{slice_get-update_same, slice_get-append_left, slice_get-append_right, some_at, some_map, AllDifferent-[], below_or}
+use Rattle.kasa_graph.specs.Signature.{SiteEntry, TypeEntry, type_names, sites_of, state_names, state_counts, HasSite, IsNameByte, IsName}
+use Rattle.kasa_graph.proofs.ListLemmas.{slice_get-update_same, slice_get-append_left, slice_get-append_right, some_at, below_or}
 use Rattle.kasa_graph.proofs.SignatureLemmas.{site_within, type_of_site}
 use Rattle.kasa_top.specs.GateText.{is_letter, is_digit, is_letter_or_digit, is_gate_name, IsGateName, IsSiteLine, IsTypeLine, HaveDifferentNames, AreTypes}
 use Rattle.kasa_top.specs.GateNumbers.{with_new_sites, with_new_states, IsNewSite, IsNewType}

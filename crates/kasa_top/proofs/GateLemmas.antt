@@ -1,20 +1,20 @@
 -- What the lines of a text say is a valid model.
-use Rattle.std.proofs.Common.{◌≡◌, ◌≢◌, ◌==◌, ℕ, zero, suc, ◌+◌, ◌<◌, ◌≤◌, Bool, true, false, cond, List, [], ◌∷◌, ◌++◌, length, map, take, Option, Some, None, refl, sym, ap, ◌∙◌, subst, ◌⊎◌, inl, inr, arith}
-use Rattle.std.specs.Prelude.{slice_get, option_map, unwrap_or, ⊤}
+use Rattle.std.proofs.Common.{◌≡◌, ℕ, zero, suc, ◌<◌, ◌≤◌, Bool, true, false, cond, List, [], ◌∷◌, length, map, Option, Some, None, refl, sym, ap, ◌∙◌, subst, arith}
+use Rattle.std.specs.Prelude.{slice_get, option_map, unwrap_or}
 use Rattle.std.specs.Option.{option_map_or}
 use Rattle.std.specs.List.{AllByRecursion}
 use Rattle.std.specs.Str.{bytes_eq}
 use Rattle.std.proofs.lemmas.List.{length-map}
-use Rattle.std.proofs.lemmas.Option.{slice_get-map, slice_get_within, same_Some}
+use Rattle.std.proofs.lemmas.Option.{slice_get-map, same_Some}
 use Rattle.std.proofs.lemmas.Slice.Eq.{bytes_eq-Decides}
 use Rattle.kasa_graph.specs.Lists.{Has, AllDifferent}
-use Rattle.kasa_graph.specs.Signature.{SiteEntry, TypeEntry, type_names, site_names, sites_of, state_names, state_counts, IsName, AreNames, IsSignature}
-use Rattle.kasa_graph.proofs.ListLemmas.{some_map, some_at}
+use Rattle.kasa_graph.specs.Signature.{SiteEntry, TypeEntry, sites_of, state_names, state_counts, IsSignature}
+use Rattle.kasa_graph.proofs.ListLemmas.{some_map}
 use Rattle.kasa_top.specs.declared.gate.GateSite.{GateSite}
 use Rattle.kasa_top.specs.declared.reader.line.SiteUse.{SiteUse}
-use Rattle.kasa_top.specs.GateLines.{AgentParts, RuleLineParts, LinesParts}
-use Rattle.kasa_top.specs.Gate.{InitParts, GateRuleParts, GateParts, IsStateWithin, AreStates, IsGateSite, AreGateSites, IsGate}
-use Rattle.kasa_top.specs.GateText.{IsGateName, IsSiteLine, IsTypeLine, HaveDifferentNames, AreTypes, IsNextIn, IsUseOf, AreUsesOf, IsAgentOf, number_of, use_at, written_state, gate_site, gate_sites, type_number, agent_sites_of, init_of, gate_rule_of}
+use Rattle.kasa_top.specs.GateLines.{AgentParts, LinesParts}
+use Rattle.kasa_top.specs.Gate.{GateParts, IsStateWithin, AreStates, IsGateSite, AreGateSites, IsGate}
+use Rattle.kasa_top.specs.GateText.{IsGateName, IsSiteLine, IsTypeLine, AreTypes, IsNextIn, IsUseOf, AreUsesOf, IsAgentOf, number_of, use_at, written_state, gate_site, gate_sites, type_number, agent_sites_of, init_of, gate_rule_of}
 use Rattle.kasa_top.specs.GateNumbers.{IsUseIn, AreInits, AreRules}
 use Rattle.kasa_top.proofs.BuildLemmas.{IsName-gate}
 use Rattle.kasa_top.proofs.NumberLemmas.{bytes_same, each_at, sites_differ, states_differ_at}

@@ -1,6 +1,6 @@
 -- A line that is read is printed so, and what is printed is read again.
-use Rattle.std.proofs.Common.{◌≡◌, ◌==◌, ℕ, zero, suc, ◌+◌, ◌<◌, ◌≤◌, Bool, true, false, cond, ◌⊎◌, inl, inr, not, ◌||◌, ◌&&◌, List, [], ◌∷◌, ◌++◌, length, map, Option, Some, None, All, refl, sym, ap, ◌∙◌, subst, arith, append_assoc, length-append, leb}
-use Rattle.std.specs.Prelude.{option_and_then, option_map, ⊤, codes}
+use Rattle.std.proofs.Common.{◌≡◌, ◌==◌, ℕ, ◌<◌, ◌≤◌, Bool, true, false, cond, ◌⊎◌, inl, inr, not, ◌&&◌, List, [], ◌∷◌, ◌++◌, length, map, Option, Some, None, refl, sym, ap, ◌∙◌, subst, arith, append_assoc, length-append, leb}
+use Rattle.std.specs.Prelude.{option_map, codes}
 use Rattle.std.specs.List.{AllByRecursion, list_all, slice_split, join_with_byte}
 use Rattle.std.specs.Option.{is_none}
 use Rattle.std.proofs.lemmas.Bool.{eq-eqb, eqb-true, and_parts, and_from, leb-true, le-leb, not-true}

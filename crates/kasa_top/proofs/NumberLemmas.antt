@@ -1,5 +1,5 @@
 -- The numbers of names, and what an agent says of the sites of its type.
-use Rattle.std.proofs.Common.{◌≡◌, ◌≢◌, ◌==◌, ℕ, zero, suc, ◌+◌, ◌<◌, ◌≤◌, Bool, true, false, cond, List, [], ◌∷◌, ◌++◌, length, map, take, Option, Some, None, refl, sym, ap, ◌∙◌, subst, ◌⊎◌, inl, inr, arith, append_assoc, get_or, replicate}
+use Rattle.std.proofs.Common.{◌≡◌, ◌≢◌, ◌==◌, ℕ, zero, suc, ◌+◌, ◌<◌, Bool, true, false, cond, List, [], ◌∷◌, ◌++◌, length, map, take, Option, Some, None, refl, sym, ap, ◌∙◌, ◌⊎◌, inl, inr, get_or, replicate}
 use Rattle.std.specs.Prelude.{slice_get, slice_set, option_map, is_some}
 use Rattle.std.specs.Option.{option_map_or}
 use Rattle.std.specs.List.{AllByRecursion}
@@ -10,11 +10,11 @@ use Rattle.std.proofs.lemmas.Option.{slice_get-map, slice_get_within, same_Some}
 use Rattle.std.proofs.lemmas.Slice.Eq.{bytes_eq-Decides}
 use Rattle.kasa_graph.specs.Lists.{Has, AllDifferent}
 use Rattle.kasa_graph.specs.Signature.{SiteEntry, TypeEntry, type_names, site_names, sites_of, state_names}
-use Rattle.kasa_graph.proofs.ListLemmas.{some_map, some_at, same_or_not, AllDifferent-[], AllDifferent-head, AllDifferent-tail}
+use Rattle.kasa_graph.proofs.ListLemmas.{some_map, same_or_not, AllDifferent-[], AllDifferent-head, AllDifferent-tail}
 use Rattle.kasa_top.specs.declared.gate.GateSite.{GateSite}
 use Rattle.kasa_top.specs.declared.reader.line.SiteUse.{SiteUse}
 use Rattle.kasa_top.specs.GateLines.{AgentParts}
-use Rattle.kasa_top.specs.GateText.{HaveDifferentNames, AreTypes, IsNextIn, IsUseOf, AreUsesOf, IsAgentOf, type_number, agent_sites_of, number_of, use_at, written_state, gate_site, gate_sites}
+use Rattle.kasa_top.specs.GateText.{HaveDifferentNames, AreTypes, IsUseOf, AreUsesOf, IsAgentOf, type_number, agent_sites_of, number_of, use_at, gate_site, gate_sites}
 use Rattle.kasa_top.specs.GateNumbers.{IsUseIn, SaysMore, IsSaid}
 use Rattle.kasa_top.proofs.BuildLemmas.{AllDifferent-push, stands_twice, AllByRecursion-at, AllByRecursion-push, take_next, at_next}
 

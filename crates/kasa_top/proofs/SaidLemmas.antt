@@ -1,6 +1,5 @@
 -- The lines of a text one after the other, and what they declare.
-use Rattle.std.proofs.Common.{◌≡◌, ◌==◌, ℕ, List, [], ◌∷◌, ◌++◌, Option, Some, None, refl, sym, ap, ◌∙◌, append_assoc}
-use Rattle.std.specs.Prelude.{option_map}
+use Rattle.std.proofs.Common.{◌≡◌, ◌==◌, ℕ, List, [], ◌∷◌, ◌++◌, Option, Some, None, refl, sym, ap, ◌∙◌}
 use Rattle.std.specs.List.{slice_split}
 use Rattle.std.proofs.lemmas.List.{append-nil}
 use Rattle.kasa_graph.specs.Signature.{TypeEntry}
@@ -8,7 +7,7 @@ use Rattle.kasa_top.specs.declared.reader.line.Line.{Line}
 use Rattle.kasa_top.specs.declared.reader.line.Line.TheVariants.{Blank, Declared, Init, Rule}
 use Rattle.kasa_top.specs.GateLines.{AgentParts, RuleLineParts, LinesParts}
 use Rattle.kasa_top.specs.GateText.{types_of, inits_of, rules_of}
-use Rattle.kasa_top.specs.GateReading.{◌>>=◌, cut_at, each, said, with_line}
+use Rattle.kasa_top.specs.GateReading.{cut_at, each, said, with_line}
 use Rattle.kasa_top.proofs.CutLemmas.{parts-cut, parts-whole}
 use Rattle.kasa_top.proofs.EachLemmas.{onto, regroup}
 

@@ -1,5 +1,5 @@
 -- A text is that of at most one model: what its lines say.
-use Rattle.std.proofs.Common.{◌≡◌, ◌==◌, ℕ, List, [], ◌∷◌, ◌++◌, map, Option, Some, None, refl, sym, ap, ◌∙◌, subst}
+use Rattle.std.proofs.Common.{◌≡◌, ◌==◌, ℕ, List, [], ◌∷◌, map, Option, Some, None, refl, sym, ap, ◌∙◌, subst}
 use Rattle.std.specs.Prelude.{option_map}
 use Rattle.std.specs.List.{AllByRecursion, slice_split, join_with_byte}
 use Rattle.std.proofs.lemmas.Option.{same_Some}
@@ -10,7 +10,7 @@ use Rattle.kasa_top.specs.declared.reader.line.Line.TheVariants.{Blank, Declared
 use Rattle.kasa_graph.specs.Signature.{TypeEntry}
 use Rattle.kasa_top.specs.GateLines.{AgentParts, RuleLineParts, LinesParts}
 use Rattle.kasa_top.specs.Gate.{InitParts, GateRuleParts, GateParts}
-use Rattle.kasa_top.specs.GateText.{joined, line_text, text_of, IsLine, IsTypeLine, types_of, AreTypes, init_of, gate_rule_of, AreLines, gate_of, IsGateTextOf, IsGateText}
+use Rattle.kasa_top.specs.GateText.{line_text, text_of, IsLine, IsTypeLine, types_of, AreTypes, init_of, gate_rule_of, IsGateTextOf, IsGateText}
 use Rattle.kasa_top.specs.GateNumbers.{AreInits, AreRules}
 use Rattle.kasa_top.specs.GateReading.{each, line_at, said}
 use Rattle.kasa_top.proofs.PartLemmas.{Lacks, AllByRecursion-map, joined-byte, parted, each-again, each-takes}

@@ -6,11 +6,9 @@ use Rattle.kasa_graph.specs.declared.pattern.StateTest.{StateTest}
 use Rattle.kasa_graph.specs.declared.pattern.StateTest.TheVariants as state
 use Rattle.kasa_graph.specs.declared.pattern.LinkTest.TheVariants as link
 use Rattle.kasa_graph.specs.declared.pattern.SiteTests.{SiteTests}
-use Rattle.kasa_graph.specs.declared.pattern.Node.{Node}
-use Rattle.kasa_graph.specs.Signature.{TypeEntry, IsSignature, sites_of, state_names, state_counts}
+use Rattle.kasa_graph.specs.Signature.{TypeEntry, IsSignature, sites_of, state_counts}
 use Rattle.kasa_rules.specs.declared.rule.Fate.TheVariants.{Kept}
 use Rattle.kasa_rules.specs.declared.rule.SiteAction.{SiteAction}
-use Rattle.kasa_rules.specs.declared.rule.NodeAction.{NodeAction}
 use Rattle.kasa_rules.specs.declared.model.Model.{Model}
 use Rattle.kasa_rules.specs.Rule.{RuleParts}
 use Rattle.kasa_top.specs.declared.gate.GateSite.{GateSite}

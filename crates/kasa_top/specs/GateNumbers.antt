@@ -1,5 +1,5 @@
 -- From names to numbers: what the reader's private functions give.
-use Rattle.std.specs.Prelude.{◌≡◌, ◌≢◌, ℕ, List, [], ◌∷◌, ◌++◌, ◌≤◌, length, map, Some, None, slice_get, slice_set}
+use Rattle.std.specs.Prelude.{◌≡◌, ◌≢◌, ℕ, List, ◌++◌, ◌≤◌, length, map, Some, None, slice_get, slice_set}
 use Rattle.std.specs.List.{AllByRecursion}
 use Rattle.kasa_graph.specs.Lists.{Has, AllDifferent, update}
 use Rattle.kasa_graph.specs.Signature.{SiteEntry, TypeEntry, type_names}

@@ -1,5 +1,5 @@
 -- Reading a line, as functions on lists: what the reader's private functions give. That it undoes printing is proved.
-use Rattle.std.specs.Prelude.{◌≡◌, ℕ, ◌≤◌, ◌&&◌, Bool, true, false, List, [], ◌∷◌, ◌++◌, length, map, Option, Some, None, option_and_then, option_map, nat_le, ◌==◌, codes, if◌then◌else◌}
+use Rattle.std.specs.Prelude.{ℕ, ◌&&◌, Bool, List, [], ◌∷◌, ◌++◌, length, Option, Some, None, option_and_then, option_map, nat_le, ◌==◌, codes, if◌then◌else◌}
 use Rattle.std.specs.List.{slice_split, list_all}
 use Rattle.std.specs.Option.{is_none}
 use Rattle.kasa_graph.specs.Signature.{SiteEntry, TypeEntry}

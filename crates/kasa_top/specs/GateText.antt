@@ -1,9 +1,9 @@
 -- The text of a model whose inits and rules speak of one agent each, by printing: the text is the texts of its lines.
-use Rattle.std.specs.Prelude.{◌≡◌, ℕ, suc, ◌≤◌, ◌<◌, ◌&&◌, ◌||◌, Bool, true, false, IsTrue, ⊤, List, [], ◌∷◌, ◌++◌, length, map, Option, Some, None, nat_le, slice_get, codes, unwrap_or, if◌then◌else◌}
+use Rattle.std.specs.Prelude.{◌≡◌, ℕ, suc, ◌≤◌, ◌<◌, ◌&&◌, ◌||◌, Bool, true, false, ⊤, List, [], ◌∷◌, ◌++◌, length, map, Option, Some, None, nat_le, slice_get, codes, unwrap_or, if◌then◌else◌}
 use Rattle.std.specs.List.{AllByRecursion, list_all}
 use Rattle.std.specs.Str.{bytes_eq}
 use Rattle.kasa_graph.specs.Lists.{Has, AllDifferent}
-use Rattle.kasa_graph.specs.Signature.{SiteEntry, TypeEntry, sites_of, state_names}
+use Rattle.kasa_graph.specs.Signature.{SiteEntry, TypeEntry, sites_of}
 use Rattle.kasa_top.specs.declared.gate.GateSite.{GateSite}
 use Rattle.kasa_top.specs.declared.reader.line.SiteUse.{SiteUse}
 use Rattle.kasa_top.specs.declared.reader.line.Line.{Line}

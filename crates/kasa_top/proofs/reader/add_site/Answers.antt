@@ -1,7 +1,6 @@
 use Rattle.std.proofs.Common.{◌≡◌, List, ℕ, Some, sym, ap, ◌∙◌}
-use Rattle.std.proofs.lemmas.Result.{IfOk-weaker}
 use Rattle.kasa_graph.specs.Signature.{SiteEntry, with_new_site, site_names}
-use Rattle.kasa_graph.specs.Lists.{Has, AllDifferent}
+use Rattle.kasa_graph.specs.Lists.{Has}
 use Rattle.kasa_top.proofs.BuildLemmas.{found, not_found, IsName-gate, last_owner, last_none, site_added}
 use Rattle.kasa_top.proofs.reader.add_site.Goals as goal
 

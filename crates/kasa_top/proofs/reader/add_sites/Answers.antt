@@ -1,4 +1,4 @@
-use Rattle.std.proofs.Common.{◌≡◌, List, ℕ, sym, ◌∙◌}
+use Rattle.std.proofs.Common.{sym}
 use Rattle.std.proofs.lemmas.Bool.{MatchBool-at_true, MatchBool-at_false}
 use Rattle.kasa_graph.proofs.ListLemmas.{AllDifferent-[]}
 use Rattle.kasa_top.proofs.BuildLemmas.{with_sites-none, sites_owner, sites_room, sites_line, sites_more, sites_differ, sites_stop}

@@ -1,4 +1,4 @@
-use Rattle.std.proofs.Common.{◌≡◌, List, ℕ, sym, ◌∙◌}
+use Rattle.std.proofs.Common.{sym, ◌∙◌}
 use Rattle.kasa_graph.proofs.ListLemmas.{AllDifferent-[]}
 use Rattle.kasa_top.proofs.BuildLemmas.{found, not_found, with_states-none, states_owner, states_room, states_name, states_more, states_differ, states_stop}
 use Rattle.kasa_top.proofs.reader.add_states.Goals as goal

@@ -1,4 +1,4 @@
-use Rattle.std.proofs.Common.{◌≡◌, List, ℕ, refl, sym, ap, subst, ◌∙◌, take, drop, length, arith, replicate, length-set}
+use Rattle.std.proofs.Common.{◌≡◌, ap, subst, ◌∙◌, take, drop, length, arith, replicate, length-set}
 use Rattle.std.proofs.lemmas.List.{take_at, take_all}
 use Rattle.kasa_graph.specs.Signature.{sites_of}
 use Rattle.kasa_graph.proofs.ListLemmas.{AllDifferent-[]}

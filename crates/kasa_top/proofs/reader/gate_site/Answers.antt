@@ -1,4 +1,3 @@
-use Rattle.std.proofs.Common.{◌≡◌, List, ℕ, sym, ap, ◌∙◌}
 use Rattle.kasa_graph.specs.Signature.{state_names}
 use Rattle.kasa_top.proofs.NumberLemmas.{says_state, says_next}
 use Rattle.kasa_top.proofs.reader.gate_site.Goals as goal

@@ -1,6 +1,5 @@
 use Rattle.std.proofs.Common.{sym, ◌∙◌, subst}
 use Rattle.std.proofs.lemmas.Option.{MatchOption-at_some, MatchOption-at_none}
-use Rattle.kasa_top.specs.Gate.{GateParts, IsGate}
 use Rattle.kasa_top.specs.GateText.{IsGateTextOf}
 use Rattle.kasa_top.proofs.TextLemmas.{no_lines, type_lines, text_is, no_model, types_read, inits_read, rules_read, signature_said, no_types, no_inits, no_rules, all_said, gate_read}
 use Rattle.kasa_top.proofs.GateLemmas.{gate_is}

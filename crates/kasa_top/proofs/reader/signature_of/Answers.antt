@@ -1,11 +1,10 @@
-use Rattle.std.proofs.Common.{◌≡◌, ◌≤◌, List, ℕ, sym, ap, ◌∙◌, take, length, map, subst, arith}
+use Rattle.std.proofs.Common.{◌≡◌, ◌≤◌, List, ◌∙◌, take, length, map, subst, arith}
 use Rattle.std.specs.List.{AllByRecursion}
 use Rattle.std.proofs.lemmas.Bool.{MatchBool-at_true, MatchBool-at_false}
 use Rattle.std.proofs.lemmas.List.{take_all}
 use Rattle.kasa_graph.specs.Signature.{TypeEntry}
 use Rattle.kasa_graph.specs.Lists.{AllDifferent}
-use Rattle.kasa_graph.proofs.ListLemmas.{AllDifferent-[]}
-use Rattle.kasa_top.specs.GateText.{HaveDifferentNames, AreTypes}
+use Rattle.kasa_top.specs.GateText.{HaveDifferentNames}
 use Rattle.kasa_top.proofs.BuildLemmas.{types_line, types_room, types_more, types_differ, types_sites, types_stop}
 use Rattle.kasa_top.proofs.reader.signature_of.Goals as goal
 

@@ -1,4 +1,4 @@
-use Rattle.std.proofs.Common.{◌≡◌, ◌≤◌, take, map, length}
+use Rattle.std.proofs.Common.{◌≡◌, take, map}
 use Rattle.std.specs.List.{AllByRecursion}
 use Rattle.kasa_graph.specs.Lists.{AllDifferent}
 use Rattle.kasa_top.specs.GateText.{HaveDifferentNames}

@@ -1,8 +1,8 @@
-use Rattle.std.proofs.Common.{◌≡◌, ◌<◌, List, ℕ, inl, inr, refl, sym, ap, ◌∙◌, arith, length}
+use Rattle.std.proofs.Common.{◌<◌, inl, inr, refl, sym, ap, ◌∙◌, arith, length}
 use Rattle.std.specs.Prelude.{slice_get, slice_set, is_some}
 use Rattle.kasa_top.specs.declared.gate.GateSite.{GateSite}
 use Rattle.std.proofs.lemmas.Option.{slice_get_read}
-use Rattle.kasa_graph.specs.Signature.{sites_of, state_names}
+use Rattle.kasa_graph.specs.Signature.{sites_of}
 use Rattle.kasa_top.proofs.NumberLemmas.{states_differ_at, found_within, no_use, already_said, now_said, tested_is, untested}
 use Rattle.kasa_top.proofs.reader.use_site.Goals as goal
 

@@ -1,6 +1,6 @@
-use Rattle.std.proofs.Common.{◌≡◌, ◌∷◌, [], Some, None, map, sym, ap, ◌∙◌, ◌++◌}
+use Rattle.std.proofs.Common.{◌∷◌, [], sym, ap, ◌∙◌, ◌++◌}
 use Rattle.std.proofs.lemmas.List.{map_push}
-use Rattle.kasa_top.specs.GateReading.{each, behind, behind_first}
+use Rattle.kasa_top.specs.GateReading.{behind, behind_first}
 use Rattle.kasa_top.proofs.EachLemmas.{nows, each-more, each-none, each-all, first-part}
 use Rattle.kasa_top.proofs.reader.line.behind_first.Goals as goal
 

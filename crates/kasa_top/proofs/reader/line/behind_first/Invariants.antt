@@ -1,4 +1,4 @@
-use Rattle.std.proofs.Common.{◌≡◌, ◌∷◌, [], map, drop}
+use Rattle.std.proofs.Common.{◌≡◌, ◌∷◌, [], drop}
 use Rattle.kasa_top.specs.GateReading.{each, behind, behind_first}
 use Rattle.kasa_top.proofs.EachLemmas.{onto, nows}
 use Rattle.kasa_top.proofs.reader.line.behind_first.Given as goal

@@ -1,4 +1,4 @@
-use Rattle.std.proofs.Common.{◌<◌, ◌+◌, length, add-one, arith, sym, rules}
+use Rattle.std.proofs.Common.{◌+◌, add-one, arith, sym}
 use Rattle.std.proofs.lemmas.List.{take_rest}
 use Rattle.kasa_top.proofs.CutLemmas.{cut-none, cut-some}
 use Rattle.kasa_top.proofs.reader.line.cut.Goals as goal

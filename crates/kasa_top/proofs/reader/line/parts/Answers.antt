@@ -1,5 +1,4 @@
-use Rattle.std.proofs.Common.{◌≡◌, ◌==◌, ◌++◌, ◌∷◌, [], Option, Some, None, List, ℕ, map, sym, ap, ◌∙◌, append_assoc}
-use Rattle.std.specs.List.{slice_split}
+use Rattle.std.proofs.Common.{◌≡◌, Some, None, sym, append_assoc}
 use Rattle.std.proofs.lemmas.List.{map_push}
 use Rattle.kasa_top.specs.GateReading.{cut_at}
 use Rattle.kasa_top.proofs.CutLemmas.{cut-shorter, parts-cut, parts-whole}

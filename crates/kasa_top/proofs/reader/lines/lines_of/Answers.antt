@@ -1,9 +1,8 @@
-use Rattle.std.proofs.Common.{◌≡◌, ◌∷◌, ◌++◌, [], Some, None, Option, List, sym, ap, ◌∙◌, refl}
+use Rattle.std.proofs.Common.{◌∷◌, ◌++◌, [], Some, sym, ap, ◌∙◌, refl}
 use Rattle.std.specs.Prelude.{option_map}
 use Rattle.kasa_top.specs.GateLines.{LinesParts}
-use Rattle.kasa_top.specs.GateReading.{cut_at, line_at, said, with_line}
+use Rattle.kasa_top.specs.GateReading.{line_at, said, with_line}
 use Rattle.kasa_top.proofs.CutLemmas.{cut-shorter}
-use Rattle.kasa_top.proofs.LineLemmas.{line-takes, line-again, Lacks-line}
 use Rattle.kasa_top.proofs.SaidLemmas.{lines_read, lines-more, lines-none, last-line, last-none, onto-nil, said-push}
 use Rattle.kasa_top.proofs.reader.lines.lines_of.Goals as goal
 
