@@ -1,6 +1,7 @@
 -- Planned families are views, and printed reports are sound.
 use Rattle.std.proofs.Common.{◌≡◌, ℕ, List, Option}
 use Rattle.kasa_edge.specs.Shelf.{Held}
+use Rattle.kasa_graph.specs.Lists.{Has}
 use Rattle.kasa_rules.specs.declared.model.Model.{Model}
 use Rattle.kasa_families.specs.declared.family.Family.{Family}
 use Rattle.kasa_families.specs.declared.family.Family.TheVariants.{View, Across, Parallel}
@@ -12,14 +13,17 @@ use Rattle.kasa_top.specs.declared.status.Status.{Status}
 use Rattle.kasa_top.specs.declared.status.Status.TheVariants.{Done, BadWords, ReadFault, WriteFault, NoMemory, NotRead}
 use Rattle.kasa_top.specs.Gate.{GateParts, IsGate, model_of}
 use Rattle.kasa_top.specs.Outcome.{Ends, IsReportOf, TakesAll}
-use Rattle.kasa_top.specs.Plan.{IsPlanned}
+use Rattle.kasa_top.specs.Plan.{IsPlanned, IsViewPlan}
 use Rattle.kasa_top.specs.Rounds.{IsView}
 use Rattle.kasa_top.specs.Sound.{IsSound, TakesSoundReport}
 
-pub IsView-planned : (model : Model) (family : Family) → IsPlanned model family → IsView family
-IsView-planned model (View a sites) planned = tt
-IsView-planned model (Across a x p b y q) planned = absurd planned
-IsView-planned model (Parallel a x u b y w) planned = absurd planned
+is_view : (model : Model) (family : Family) → IsPlanned model family → IsView family
+is_view model (View a sites) planned = tt
+is_view model (Across a x p b y q) planned = absurd planned
+is_view model (Parallel a x u b y w) planned = absurd planned
+
+pub IsView-planned : (model : Model) (families : List Family) → IsViewPlan model families → (family : Family) → Has families family → IsView family
+IsView-planned model families plan family has = is_view model family ((plan.exact family).0 has)
 
 pub report_is_sound : (text printed : List ℕ) (report : IsReportOf text printed) → IsSound text printed report
 report_is_sound text printed report m reached family among =

@@ -23,7 +23,7 @@ loop-agent-preserved c =
 -- the families are the plan
 planned : (c : After-families_of) → IfOk c.families_of.result (λ families. IsViewPlan (model_of c.args.gate.now) families.items)
 planned c =
-    let types : c.types-agent-end.result ≡ length c.args.gate.now.sig = c.types-agent-end.ensures ∙ ap (λ m. length m.sig) c.gate.view_is in
+    let types : c.types-agent-end.result ≡ length c.args.gate.now.sig = c.types-agent-end.ensures.count ∙ ap (λ m. length m.sig) c.gate.view_is in
     let most : c.loop-agent.agent ≤ c.types-agent-end.result = c.loop-agent.auto.agent-end in
     let least : c.types-agent-end.result ≤ c.loop-agent.agent = c.loop-agent-test.false in
     let all : c.loop-agent.agent ≡ length c.args.gate.now.sig = omega arith in
@@ -44,7 +44,7 @@ returns-clause-different c = IfOk-weaker c.families_of.result _ _ (λ families p
 pub returns-clause-few : goal.returns-clause-few
 returns-clause-few c =
     let is = subst IsGate c.gate.view_is c.gate.invariant in
-    let types : c.types-agent-end.result ≡ length c.args.gate.now.sig = c.types-agent-end.ensures ∙ ap (λ m. length m.sig) c.gate.view_is in
+    let types : c.types-agent-end.result ≡ length c.args.gate.now.sig = c.types-agent-end.ensures.count ∙ ap (λ m. length m.sig) c.gate.view_is in
     let most : c.loop-agent.agent ≤ c.types-agent-end.result = c.loop-agent.auto.agent-end in
     let few_types : length c.args.gate.now.sig ≤ 8 = is.few_types in
     let few : length c.loop-agent.views.keys ≤ 65 * c.loop-agent.agent = c.loop-agent.invariant.1 in
