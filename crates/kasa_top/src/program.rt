@@ -151,12 +151,7 @@ fn answer_and_print<S: Shelf, O: Sink>(
 /// Does what the words ask for, over the texts of a shelf, and prints to a sink. `analyse MODEL` prints what the sites of
 /// each agent can never hold together, as the least closed tables of the planned views, which are orthogonal pattern
 /// sets after Feret and Ly. The status says how it ended; the text due is made whole before any of it is written.
-pub fn run<S: Shelf, O: Sink>(
-    alloc: Global,
-    words: &[String],
-    shelf: &mut S,
-    out: &mut O,
-) -> Status
+pub fn run<S: Shelf, O: Sink>(alloc: Global, words: &[String], shelf: &mut S, out: &mut O) -> Status
     ensures ends { Ends (map string_bytes words.now) (S.held shelf.old) (Rose (S.read_faults shelf.old) (S.read_faults shelf.new)) (Rose (O.faults out.old) (O.faults out.new)) result (O.taken out.old) (O.taken out.new) }
     ensures sound { result ≡ Status.Done → TakesSoundReport (map string_bytes words.now) (S.held shelf.old) (O.taken out.old) (O.taken out.new) }
     ensures same { S.held shelf.new ≡ S.held shelf.old }

@@ -84,7 +84,11 @@ fn texts_of_another_form_are_not_read(rt: HostRuntime) -> Result<(), Fail> {
     for text in texts {
         let (code, printed) = analyse(rt.alloc(), text)?;
         assert_eq!(rt; code, 13, "at {text:?}");
-        assert_eq!(rt; printed.as_slice(), b"not read yet\n".as_slice(), "at {text:?}");
+        assert_eq!(rt;
+            printed.as_slice(),
+            b"not read yet\n".as_slice(),
+            "at {text:?}"
+        );
     }
     Ok(())
 }
@@ -192,7 +196,10 @@ fn rows_that_occur_are_printed(rt: HostRuntime) -> Result<(), Fail> {
         *gate = fired(rule, *gate).ok_or("an embedding")?;
         for gate in gates.iter().copied() {
             let line = line_of(gate);
-            let found = printed.as_slice().windows(line.len().max(1)).any(|part| part == line);
+            let found = printed
+                .as_slice()
+                .windows(line.len().max(1))
+                .any(|part| part == line);
             assert!(rt; found, "after rule {rule}");
         }
     }
