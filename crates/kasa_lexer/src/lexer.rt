@@ -73,7 +73,9 @@ fn take_token(
     Ok(n)
 }
 
-/// The tokens of a text, or its first fault. It is one pass over the text.
+/// The tokens of a text of at most 4,194,304 bytes, in text order, or its first fault, with its
+/// line and column. It is one pass over the text, without a copy of it. `NoMemory` comes only where
+/// there is no memory for the tokens.
 pub fn lex(alloc: Global, text: &[u8]) -> Result<Vec<Token>, LexFault>
     requires { length text.now ≤ 4194304 }
     ensures tokens { IfOk result (λ tokens. IsOutcome text.now (Ok tokens.items)) }
