@@ -7,6 +7,8 @@ pub mod laws;
 mod patterns;
 mod row;
 mod rows;
+#[cfg(test)]
+mod tests;
 mod valid;
 
 pub use compatible::{Spot, is_compatible};
