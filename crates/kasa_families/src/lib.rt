@@ -4,6 +4,8 @@
 mod compatible;
 mod family;
 pub mod laws;
+#[cfg(test)]
+mod listed;
 mod patterns;
 mod row;
 mod rows;

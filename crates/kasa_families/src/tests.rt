@@ -1,7 +1,8 @@
 //! Worked families and rows.
+use crate::listed::{OneTable, has_shape};
 use crate::*;
 use kasa_graph::{Signature, is_name, write_pattern};
-use kasa_num::{AgentType, SiteNo, StateNo};
+use kasa_num::{AgentType, FamilyNo, SiteNo, StateNo};
 use std::alloc::Global;
 use std::process::Abort;
 use std::test::Fail;
@@ -242,5 +243,22 @@ fn invalid_families_and_rows_are_refused(rt: HostRuntime) -> Result<(), Fail> {
     let lock = view(alloc, 0, &[1])?;
     let stateless = row(&rt, alloc, &[bound(1, 0)]);
     assert!(rt; !is_row(&sig, &lock, &stateless));
+    Ok(())
+}
+
+#[test]
+fn tables_answer_by_number(rt: HostRuntime) -> Result<(), Fail> {
+    let alloc = rt.alloc();
+    let bonds = parallel();
+    let same = Row::Same;
+    assert!(rt; has_shape(&bonds, &same));
+    let tables = OneTable::new(alloc, bonds, same)?;
+    let (f, g) = (FamilyNo(0), FamilyNo(1));
+    assert!(rt; tables.has(f, &Row::Same) && !tables.has(g, &Row::Same));
+    assert!(rt; tables.row(f, 0).is_some() && tables.row(f, 1).is_none());
+    assert!(rt;
+        tables.next_rooted(AgentType(0), 0) == Some(f)
+            && tables.next_rooted(AgentType(0), 1).is_none()
+    );
     Ok(())
 }
