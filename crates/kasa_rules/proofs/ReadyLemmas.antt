@@ -10,11 +10,13 @@ use Rattle.kasa_graph.proofs.ListLemmas.{some_at, slice_get-append_right}
 use Rattle.kasa_graph.proofs.PatternLemmas.{node_bound}
 use Rattle.kasa_rules.specs.declared.rule.Fate.{Fate}
 use Rattle.kasa_rules.specs.declared.rule.Fate.TheVariants.{Deleted, Kept}
+use Rattle.kasa_rules.specs.declared.rule.End.{End}
 use Rattle.kasa_rules.specs.declared.rule.End.TheVariants.{Left, Made}
 use Rattle.kasa_rules.specs.declared.rule.Written.{Written}
+use Rattle.kasa_rules.specs.declared.rule.Written.TheVariants.{To}
 use Rattle.kasa_rules.specs.Rule.{RuleParts, fate_at, action_at, written_state, written_link, touches, touched, made_site, made_link, IsDraft}
-use Rattle.kasa_rules.specs.Draft.{new_draft, new_site, new_agent, with_made, HasEndSite, HasEndState, IsOpen, IsUnwritten}
-use Rattle.kasa_rules.proofs.DraftLemmas.{new_written, site_count}
+use Rattle.kasa_rules.specs.Draft.{new_draft, new_site, new_agent, with_made, with_written_state, with_written_link, with_written_bond, HasEndSite, HasEndState, IsOpen, IsUnwritten}
+use Rattle.kasa_rules.proofs.DraftLemmas.{HasListed-link, new_written, site_count}
 
 has_fate : (r : RuleParts) (n : ℕ) → n < length r.actions → (f : Fate) × (fate_at r n ≡ Some f)
 unfolding fate_at
@@ -56,3 +58,17 @@ made_is_open sig r a k s last has =
     let count = some_at (state_counts sig a) s has in
     let site : slice_get (map new_site (state_counts sig a)) s ≡ Some (new_site count.0) = slice_get-map new_site (state_counts sig a) s ∙ ap (option_map new_site) count.1 in
     (rw (agent, site) refl, rw (agent, site) refl)
+
+-- a written bond leaves the created sites
+pub made_site-bond : (r : RuleParts) (e f : End) (s t k u : ℕ) → IsSome (made_site r k u) → IsSome (made_site (with_written_bond r e s f t) k u)
+unfolding made_site
+made_site-bond r e f s t k u has = HasListed-link (with_written_link r e s (To f t)) f (Made k) t u (To e s) (HasListed-link r e (Made k) s u (To f t) has)
+
+-- .. and the left pattern
+pub left-bond : (r : RuleParts) (e f : End) (s t : ℕ) → (with_written_bond r e s f t).left ≡ r.left
+unfolding with_written_link
+left-bond r e f s t = refl
+
+pub left-state : (r : RuleParts) (e : End) (s u : ℕ) → (with_written_state r e s u).left ≡ r.left
+unfolding with_written_state
+left-state r e s u = refl
