@@ -21,10 +21,10 @@ pub struct Spot {
 /// Whether a row of a family can stand in g where the family's root stands: no test of the row contradicts g's test at
 /// the same site, and for a parallel family the partners that g names can be the same node, or different ones. It takes
 /// no memory.
-pub fn is_compatible(g: &Pattern, family: &Family, spot: Spot, row: &Row) -> bool
-    requires stands { StandsAt g.now family.now (place_of spot) }
+pub fn is_compatible(g: &Pattern, family: &Family, spot: &Spot, row: &Row) -> bool
+    requires stands { StandsAt g.now family.now (place_of spot.now) }
     requires named { HasNamedSites g.now family.now }
-    ensures { IsTrue result ↔ IsCompatible g.now family.now (place_of spot) row.now }
+    ensures { IsTrue result ↔ IsCompatible g.now family.now (place_of spot.now) row.now }
 {
     match (family, spot.second, row) {
         (Family::View { agent: _, sites }, None, Row::Locals(locals)) => {

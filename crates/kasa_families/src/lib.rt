@@ -4,9 +4,13 @@
 mod compatible;
 mod family;
 pub mod laws;
+#[cfg(test)]
+mod listed;
 mod patterns;
 mod row;
 mod rows;
+#[cfg(test)]
+mod tests;
 mod valid;
 
 pub use compatible::{Spot, is_compatible};

@@ -712,7 +712,7 @@ none_written zero s = (refl, refl)
 none_written (suc k) zero = (refl, refl)
 none_written (suc k) (suc s) = none_written k s
 
-new_written : (left : List Node) (n s : ℕ) → (option_and_then (λ (x : SiteAction). x.state) (option_and_then (λ (x : NodeAction). slice_get x.sites s) (slice_get (map keep_node left) n)) ≡ None) × (option_and_then (λ (x : SiteAction). x.link) (option_and_then (λ (x : NodeAction). slice_get x.sites s) (slice_get (map keep_node left) n)) ≡ None)
+pub new_written : (left : List Node) (n s : ℕ) → (option_and_then (λ (x : SiteAction). x.state) (option_and_then (λ (x : NodeAction). slice_get x.sites s) (slice_get (map keep_node left) n)) ≡ None) × (option_and_then (λ (x : SiteAction). x.link) (option_and_then (λ (x : NodeAction). slice_get x.sites s) (slice_get (map keep_node left) n)) ≡ None)
 new_written [] n s = (refl, refl)
 new_written (x ∷ left) zero s = none_written (length x.sites) s
 new_written (x ∷ left) (suc n) s = new_written left n s

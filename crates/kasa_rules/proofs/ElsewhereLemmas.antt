@@ -1,14 +1,12 @@
 -- What a firing leaves of the cells on which no left node lies.
-use Rattle.std.proofs.Common.{◌≡◌, ◌≢◌, ℕ, ◌<◌, ◌⊎◌, inl, inr, List, length, refl, ap, sym, ◌∙◌, Bool, true, false}
+use Rattle.std.proofs.Common.{◌≡◌, ◌≢◌, ℕ, ◌<◌, ◌⊎◌, inl, inr, List, length, refl, ap, ◌∙◌, Bool, true, false}
 use Rattle.std.specs.Prelude.{Option, Some, None, option_map, option_and_then}
 use Rattle.kasa_graph.specs.declared.mixture.Agent.{Agent}
 use Rattle.kasa_graph.specs.declared.mixture.AgentSite.{AgentSite}
 use Rattle.kasa_graph.specs.Mixture.{type_in, site_in, state_in, partner_in}
-use Rattle.kasa_rules.specs.declared.rule.Fate.{Fate}
 use Rattle.kasa_rules.specs.declared.rule.Fate.TheVariants.{Deleted}
-use Rattle.kasa_rules.specs.declared.rule.Written.{Written}
-use Rattle.kasa_rules.specs.Rule.{RuleParts, fate_at, written_state, written_link}
-use Rattle.kasa_rules.specs.Firing.{fire, node_on, fate_on, state_on, link_on, touched_on, state_after, partner_after, kept_partner, unless, site_after, IsElsewhere, KeepsPartner}
+use Rattle.kasa_rules.specs.Rule.{RuleParts}
+use Rattle.kasa_rules.specs.Firing.{fire, node_on, fate_on, state_on, link_on, touched_on, kept_partner, unless, site_after, IsElsewhere, KeepsPartner}
 use Rattle.kasa_rules.proofs.FiringLemmas.{node_on-found}
 use Rattle.kasa_rules.proofs.FiredLemmas.{type_in-fire_stays, site_in-fire_old}
 

@@ -1,15 +1,14 @@
 -- What the words on rules say of the lists that a rule has.
-use Rattle.std.proofs.Common.{◌≡◌, ℕ, ◌<◌, refl, ◌∙◌, length, true}
-use Rattle.std.specs.Prelude.{Option, Some, None, IsSome, is_some, slice_get, slice_index_or, option_and_then}
+use Rattle.std.proofs.Common.{◌≡◌, ℕ, ◌<◌, refl, ◌∙◌, length}
+use Rattle.std.specs.Prelude.{Option, Some, None, IsSome, slice_get, slice_index_or, option_and_then}
 use Rattle.std.proofs.lemmas.Option.{slice_get_within, get_or_from_slice_get, slice_get-get_or}
 use Rattle.kasa_graph.proofs.ListLemmas.{some_map}
 use Rattle.kasa_rules.specs.declared.rule.Fate.{Fate}
-use Rattle.kasa_rules.specs.declared.rule.Fate.TheVariants.{Deleted, Kept}
 use Rattle.kasa_rules.specs.declared.rule.SiteAction.{SiteAction}
 use Rattle.kasa_rules.specs.declared.rule.NodeAction.{NodeAction}
 use Rattle.kasa_rules.specs.declared.rule.MadeSite.{MadeSite}
 use Rattle.kasa_rules.specs.declared.rule.MadeAgent.{MadeAgent}
-use Rattle.kasa_rules.specs.Rule.{RuleParts, fate_at, action_at, written_state, written_link, made_type, made_site, made_state, made_link, touched}
+use Rattle.kasa_rules.specs.Rule.{RuleParts, fate_at, action_at, written_state, written_link, made_type, made_site, made_state, made_link}
 
 -- ---- what is written at a site of a left node
 
@@ -32,14 +31,6 @@ written_state-of r n s o e = rw e refl
 pub written_link-of : (r : RuleParts) (n s : ℕ) (o : Option SiteAction) → o ≡ action_at r n s → option_and_then (λ (x : SiteAction). x.link) o ≡ written_link r n s
 unfolding written_link
 written_link-of r n s o e = rw e refl
-
-pub touched-deleted : (r : RuleParts) (n s : ℕ) → fate_at r n ≡ Some Deleted → touched r n s ≡ true
-unfolding touched
-touched-deleted r n s e = rw e refl
-
-pub touched-kept : (r : RuleParts) (n s : ℕ) → fate_at r n ≡ Some Kept → touched r n s ≡ is_some (written_link r n s)
-unfolding touched
-touched-kept r n s e = rw e refl
 
 -- ---- created agents
 

@@ -1,9 +1,9 @@
 // Drafts of rules: a rule is made of its left pattern by one change after another.
-ghost use Rattle.std.specs.Prelude.{◌≡◌, ◌≢◌, ◌↔◌, ℕ, ◌<◌, ◌≤◌, List, length, map, replicate, Some, None, IsTrue, IsSome, IfOk, IfSome, IfNone, OnErr, [], slice_get};
+ghost use Rattle.std.specs.Prelude.{◌≡◌, ◌≢◌, ◌↔◌, ℕ, ◌<◌, ◌≤◌, List, length, map, replicate, Some, None, IsTrue, IsSome, IfOk, IfSome, IfNone, OnErr, [], ◌∷◌, slice_get};
 ghost use Rattle.kasa_graph.specs.declared.pattern.Node.{Node};
 ghost use Rattle.kasa_graph.specs.Lists.{update};
 ghost use Rattle.kasa_graph.specs.Signature.{TypeEntry, state_counts};
-ghost use Rattle.kasa_graph.specs.Pattern.{HasNodeSite, IsPatternOver};
+ghost use Rattle.kasa_graph.specs.Pattern.{blank_node, HasNodeSite, IsPatternOver};
 ghost use Rattle.kasa_rules.specs.Rule.{fate_at, touched, HasWholeBonds, IsDraftOver, IsRuleOver};
 ghost use Rattle.kasa_rules.specs.Draft.{new_draft, keep_node, no_action, new_site, new_agent, with_made, with_deleted, with_written_state, with_written_link, with_written_bond, actions_with_state, actions_with_link, made_with_state, made_with_link, change_action, change_made, delete_node, HasEndSite, HasEndState, IsOpen, IsUnwritten, IsHalfBond, ComesBefore, HasListed};
 
@@ -298,5 +298,159 @@ impl RuleDraft {
             actions: self.actions,
             made: self.made,
         }
+    }
+}
+
+#[cfg(test)]
+mod tests {
+    use super::*;
+    use crate::touched;
+    use kasa_graph::is_name;
+    use std::process::Abort;
+    use std::test::Fail;
+
+    fn add_type(rt: &impl Abort, sig: &mut Signature, name: &[u8]) -> Result<AgentType, Fail> {
+        let taken = sig.find_type(name);
+        assert!(rt; is_name(name) && taken.is_none() && sig.types() < 500);
+        Ok(sig.add_type(name)?)
+    }
+
+    fn add_site(
+        rt: &impl Abort,
+        sig: &mut Signature,
+        agent: AgentType,
+        name: &[u8],
+    ) -> Result<SiteNo, Fail> {
+        let taken = sig.find_site(agent, name);
+        assert!(rt; is_name(name) && taken.is_none() && sig.sites(agent) < 32);
+        assert!(rt; (agent.0 as usize) < sig.types());
+        Ok(sig.add_site(agent, name)?)
+    }
+
+    fn add_state(
+        rt: &impl Abort,
+        sig: &mut Signature,
+        agent: AgentType,
+        site: SiteNo,
+        name: &[u8],
+    ) -> Result<StateNo, Fail> {
+        let taken = sig.find_state(agent, site, name);
+        assert!(rt; is_name(name) && taken.is_none() && sig.states(agent, site) < 32);
+        assert!(rt; (site.0 as usize) < sig.sites(agent));
+        Ok(sig.add_state(agent, site, name)?)
+    }
+
+    // Hub(port{open shut}) and Cart(nose).
+    fn yard(rt: &impl Abort, alloc: Global) -> Result<Signature, Fail> {
+        let mut sig = Signature::new(alloc);
+        let hub = add_type(rt, &mut sig, b"Hub")?;
+        let cart = add_type(rt, &mut sig, b"Cart")?;
+        let port = add_site(rt, &mut sig, hub, b"port")?;
+        let _ = add_site(rt, &mut sig, cart, b"nose")?;
+        for name in [b"open", b"shut"] {
+            let _ = add_state(rt, &mut sig, hub, port, name)?;
+        }
+        Ok(sig)
+    }
+
+    // A draft over a hub and a cart without tests.
+    fn hub_and_cart(
+        rt: &impl Abort,
+        alloc: Global,
+        sig: &Signature,
+        name: &[u8],
+    ) -> Result<RuleDraft, Fail>
+        ensures draft { IfOk result (λ draft. draft ≡ new_draft name.now (map (blank_node sig.now) (0 ∷ 1 ∷ []))) }
+        ensures over { IfOk result (λ draft. IsDraftOver sig.now draft) }
+    {
+        assert!(rt; sig.types() == 2);
+        let mut left = Pattern::new(alloc);
+        let _ = left.add_node(sig, AgentType(0))?;
+        let _ = left.add_node(sig, AgentType(1))?;
+        Ok(RuleDraft::new(alloc, sig, name, left)?)
+    }
+
+    // Whether a link may be written at a site of a left node.
+    fn is_open(draft: &RuleDraft, n: NodeNo, s: SiteNo) -> bool
+        ensures { IsTrue result → HasEndSite draft.now (End.Left n) s × IsOpen draft.now (End.Left n) s }
+    {
+        if (n.0 as usize) >= draft.left.nodes() {
+            return false;
+        }
+        if (s.0 as usize) >= draft.sites(n) {
+            return false;
+        }
+        !draft.touches(n, s)
+    }
+
+    #[test]
+    fn binds(rt: HostRuntime) -> Result<(), Fail> {
+        let sig = yard(&rt, rt.alloc())?;
+        let (hub, cart, site) = (NodeNo(0), NodeNo(1), SiteNo(0));
+        let mut draft = hub_and_cart(&rt, rt.alloc(), &sig, b"dock")?;
+        assert!(&rt; is_open(&draft, hub, site));
+        assert!(&rt; is_open(&draft, cart, site));
+        draft.write_bond(End::Left(hub), site, End::Left(cart), site);
+        assert!(&rt; draft.half_bond().is_none());
+        let rule = draft.finish();
+        assert_eq!(&rt; rule.name(), b"dock".as_slice());
+        assert_eq!(&rt;
+            rule.written_link(hub, site),
+            Some(Written::To(End::Left(cart), site))
+        );
+        assert_eq!(&rt; rule.written_state(hub, site), None);
+        assert!(&rt; touched(&rule, hub, site));
+        Ok(())
+    }
+
+    #[test]
+    fn deletes(rt: HostRuntime) -> Result<(), Fail> {
+        let sig = yard(&rt, rt.alloc())?;
+        let (hub, cart, site) = (NodeNo(0), NodeNo(1), SiteNo(0));
+        let mut draft = hub_and_cart(&rt, rt.alloc(), &sig, b"")?;
+        assert!(&rt; is_open(&draft, cart, site));
+        draft.delete(cart);
+        assert!(&rt; is_open(&draft, hub, site));
+        draft.write_free(hub, site);
+        assert!(&rt; draft.half_bond().is_none());
+        let rule = draft.finish();
+        assert!(&rt; rule.left().nodes() == 2);
+        assert_eq!(&rt; rule.fate(hub), Fate::Kept);
+        assert_eq!(&rt; rule.fate(cart), Fate::Deleted);
+        Ok(())
+    }
+
+    #[test]
+    fn makes(rt: HostRuntime) -> Result<(), Fail> {
+        let sig = yard(&rt, rt.alloc())?;
+        let (hub, site) = (NodeNo(0), SiteNo(0));
+        let mut draft = hub_and_cart(&rt, rt.alloc(), &sig, b"build")?;
+        assert!(&rt; sig.types() == 2);
+        assert!(&rt; sig.sites(AgentType(0)) == 1);
+        let k = draft.make(&sig, AgentType(0))?;
+        assert!(&rt; is_open(&draft, hub, site));
+        draft.write_bond(End::Made(k), site, End::Left(hub), site);
+        assert!(&rt; draft.half_bond().is_none());
+        let rule = draft.finish();
+        assert_eq!(&rt; rule.made(), 1);
+        assert_eq!(&rt; rule.made_type(k), AgentType(0));
+        assert_eq!(&rt; rule.made_state(k, site), Some(StateNo(0)));
+        assert_eq!(&rt; rule.made_link(k, site), Written::To(End::Left(hub), site));
+        Ok(())
+    }
+
+    #[test]
+    fn writes_a_state(rt: HostRuntime) -> Result<(), Fail> {
+        let sig = yard(&rt, rt.alloc())?;
+        let (hub, site) = (NodeNo(0), SiteNo(0));
+        let mut draft = hub_and_cart(&rt, rt.alloc(), &sig, b"shut")?;
+        assert!(&rt; is_open(&draft, hub, site));
+        assert!(&rt; sig.sites(AgentType(0)) == 1);
+        assert!(&rt; sig.states(AgentType(0), site) == 2);
+        draft.write_state(End::Left(hub), site, StateNo(1));
+        assert!(&rt; draft.half_bond().is_none());
+        let rule = draft.finish();
+        assert_eq!(&rt; rule.written_state(hub, site), Some(StateNo(1)));
+        Ok(())
     }
 }

@@ -319,8 +319,5 @@ pub fn touched(rule: &Rule, node: NodeNo, site: SiteNo) -> bool
     requires { HasNodeSite rule.now.left node site }
     ensures { result ≡ touched rule.now node site }
 {
-    match rule.fate(node) {
-        Fate::Deleted => true,
-        Fate::Kept => rule.written_link(node, site).is_some(),
-    }
+    is_touched(&rule.actions, node, site)
 }
