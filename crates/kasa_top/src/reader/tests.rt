@@ -27,8 +27,8 @@ fn texts_inside_the_form_are_read(rt: HostRuntime) -> Result<(), Fail> {
 }
 
 #[test]
-fn texts_outside_the_form_are_not_read(rt: HostRuntime) -> Result<(), Fail> {
-    let texts: [&[u8]; 40] = [
+fn signatures_outside_the_form_are_not_read(rt: HostRuntime) -> Result<(), Fail> {
+    let texts: [&[u8]; 28] = [
         b" ",
         b"%agent: A()\r\n",
         b"%agent: A() ",
@@ -56,6 +56,19 @@ fn texts_outside_the_form_are_not_read(rt: HostRuntime) -> Result<(), Fail> {
         b"%agent: A_b()",
         b"%agent: Abcdefghijklmnopqrstuvwxyzabcdefghijklmnopqrstuvwxyzabcdefghijkl()",
         b"%agent: A()\n%agent: B()\n%agent: C()\n%agent: D()\n%agent: E()\n%agent: F()\n%agent: G()\n%agent: H()\n%agent: I()",
+        b"%mod: A()",
+    ];
+    for text in texts {
+        assert!(rt; text.len() < 1000);
+        let model = read_gate(rt.alloc(), text)?;
+        assert!(rt; model.is_none(), "{text:?}");
+    }
+    Ok(())
+}
+
+#[test]
+fn inits_and_rules_outside_the_form_are_not_read(rt: HostRuntime) -> Result<(), Fail> {
+    let texts: [&[u8]; 12] = [
         b"%agent: A()\n%init: 2 A()",
         b"%agent: A()\n%init: 1 B()",
         b"%agent: A(a{u})\n%init: 1 A(b{u})",
@@ -68,7 +81,6 @@ fn texts_outside_the_form_are_not_read(rt: HostRuntime) -> Result<(), Fail> {
         b"%agent: A(a{u v})\n'r' A(a{u/v}) @ 1.0",
         b"%agent: A(a{u v})\n'r'A(a{u/v}) @ 1",
         b"%agent: A(a{u v})\n'r' A(a{u/v/u}) @ 1",
-        b"%mod: A()",
     ];
     for text in texts {
         assert!(rt; text.len() < 1000);
