@@ -1,8 +1,7 @@
--- Laws of tables of one family.
-use Rattle.std.proofs.Common.{◌≡◌, ◌≢◌, ℕ, zero, suc, ◌↔◌, List, [], ◌∷◌, refl, ap, arith}
-use Rattle.std.specs.Prelude.{Option, Some, None, slice_get, Bool, true, false, ◌||◌, IsTrue}
+-- Laws of rows that stand in a list, and of tables of one family.
+use Rattle.std.proofs.Common.{◌≡◌, ◌≢◌, ℕ, zero, suc, List, [], ◌∷◌, refl, ap, arith}
+use Rattle.std.specs.Prelude.{Option, Some, None, slice_get, Bool, true, false, ◌||◌}
 use Rattle.std.specs.Bool.{Decides}
-use Rattle.std.specs.Option.{is_some}
 use Rattle.std.specs.List.{list_any}
 use Rattle.kasa_graph.specs.Lists.{Has, AllDifferent}
 use Rattle.kasa_graph.specs.declared.pattern.Node.{Node}
@@ -10,13 +9,13 @@ use Rattle.kasa_families.specs.declared.family.Family.{Family}
 use Rattle.kasa_families.specs.declared.row.Row.{Row}
 use Rattle.kasa_families.specs.contracts.row.RowPartialEq.TheImpl as rows
 use Rattle.kasa_families.proofs.SameValue.{same_row}
+use Rattle.kasa_families.proofs.TableLemmas.{rows_of-some, family_at}
 use Rattle.kasa_families.specs.Compatible.{IsCompatible}
 use Rattle.kasa_families.specs.Table.{Table, rows_of, HasShape, AreShapedTables}
 use Rattle.kasa_families.specs.First.{IsLeastFrom, IsCompatibleRow}
 
 pub rows_of-first : (t : Table) (f : ℕ) → f ≡ 0 → rows_of (t ∷ []) f ≡ t.rows
-unfolding rows_of
-rows_of-first t f e = rw e refl
+rows_of-first t f e = rows_of-some (t ∷ []) f t (rw e refl)
 
 pub rows_of-later : (t : Table) (f : ℕ) → f ≢ 0 → rows_of (t ∷ []) f ≡ []
 unfolding rows_of
@@ -44,27 +43,22 @@ AreShapedTables-one family row shaped = record {
   few_rows = omega arith;
 }
 
--- what is asked of the rows of the one family is asked of its list of rows
-module _ (t : Table) (f : ℕ) (first : f ≡ 0) (g : List Node) (place : List ℕ) where
+-- what is asked of the rows of a family is asked of its list of rows
+module _ (tables : List Table) (f : ℕ) (t : Table) (at : Some t ≡ slice_get tables f) (g : List Node) (place : List ℕ) where
   abbrev pub IsCompatibleAmong : ℕ → Type 0
   IsCompatibleAmong k = (row : Row) × (slice_get t.rows k ≡ Some row) × IsCompatible g t.family place row
 
-  among : (k : ℕ) → IsCompatibleAmong k → IsCompatibleRow (t ∷ []) f g place k
-  among k (row, is, ok) = (t.family, row, rw first refl, rw (rows_of-first t f first) is, ok)
+  among : (k : ℕ) → IsCompatibleAmong k → IsCompatibleRow tables f g place k
+  among k (row, is, ok) = (t.family, row, family_at tables f t at, rw (rows_of-some tables f t at) is, ok)
 
-  of_row : (k : ℕ) → IsCompatibleRow (t ∷ []) f g place k → IsCompatibleAmong k
+  of_row : (k : ℕ) → IsCompatibleRow tables f g place k → IsCompatibleAmong k
   of_row k (family, row, named, is, ok) =
-      let same : family ≡ t.family = let first_named : Some t.family ≡ Some family = rw first at named in cc in
-      (row, rw (rows_of-first t f first) at is, rw same at ok)
+      let same : family ≡ t.family = let e = family_at tables f t at in cc in
+      (row, rw (rows_of-some tables f t at) at is, rw same at ok)
 
-  pub IsLeastFrom-one : (from : ℕ) (k : Option ℕ) → IsLeastFrom IsCompatibleAmong from k → IsLeastFrom (IsCompatibleRow (t ∷ []) f g place) from k
-  IsLeastFrom-one from None none = λ j up h. none j up (of_row j h)
-  IsLeastFrom-one from (Some k) least = (least.0, among k least.1, λ j up before h. least.2 j up before (of_row j h))
-
--- whether there is one at all
-pub is_there : (P : ℕ → Type 0) (o : Option ℕ) (b : Bool) → b ≡ is_some o → IsLeastFrom P 0 o → IsTrue b ↔ ((k : ℕ) × P k)
-is_there P None b e none = (λ yes. absurd cc, λ some. absurd (none some.0 (omega arith) some.1))
-is_there P (Some k) b e least = (λ yes. (k, least.1), λ some. e)
+  pub IsLeastFrom-rows : (from : ℕ) (k : Option ℕ) → IsLeastFrom IsCompatibleAmong from k → IsLeastFrom (IsCompatibleRow tables f g place) from k
+  IsLeastFrom-rows from None none = λ j up h. none j up (of_row j h)
+  IsLeastFrom-rows from (Some k) least = (least.0, among k least.1, λ j up before h. least.2 j up before (of_row j h))
 
 -- ---- whether a list has a row
 

@@ -1,19 +1,15 @@
 -- The patterns of roots and rows are valid over the signature.
-use Rattle.std.proofs.Common.{◌≡◌, ◌≢◌, ℕ, zero, suc, ◌<◌, inl, inr, List, [], ◌∷◌, length, map, refl, sym, ap, ◌∙◌, arith}
+use Rattle.std.proofs.Common.{◌≡◌, ◌≢◌, ℕ, zero, suc, ◌<◌, inl, inr, List, [], ◌∷◌, length, map, refl, sym, ◌∙◌, arith}
 use Rattle.std.specs.Prelude.{Option, Some, None, slice_get}
 use Rattle.std.specs.Option.{option_map_or}
-use Rattle.kasa_graph.specs.declared.pattern.StateTest.{StateTest}
 use Rattle.kasa_graph.specs.declared.pattern.StateTest.TheVariants as state
-use Rattle.kasa_graph.specs.declared.pattern.LinkTest.{LinkTest}
 use Rattle.kasa_graph.specs.declared.pattern.LinkTest.TheVariants as link
-use Rattle.kasa_graph.specs.declared.pattern.SiteTests.{SiteTests}
 use Rattle.kasa_graph.specs.declared.pattern.Node.{Node}
-use Rattle.kasa_graph.specs.Lists.{update}
 use Rattle.kasa_graph.specs.Signature.{TypeEntry, sites_of, state_counts, HasSite, HasState}
-use Rattle.kasa_graph.specs.Pattern.{agent_at, link_test, HasNodeSite, IsNoBond, types_of, blank_site, blank_node, with_state, with_link, with_bond, IsPatternOver}
-use Rattle.kasa_graph.proofs.ListLemmas.{some_map}
-use Rattle.kasa_graph.proofs.PatternLemmas.{same_site_or_not, link_test-with_link_same, link_test-with_link_other, HasNodeSite-with_link, IsPattern-same_links, link_test-with_state, IsPattern-with_link, link_test-with_bond, IsPattern-with_bond}
-use Rattle.kasa_graph.proofs.TestLemmas.{agent_at-types, agent_at-same, types_of-with_state, types_of-with_link, types_of-with_bond, types_of-blank, HasNodeSite-with_state, HasNodeSite-with_bond, HasNodeSite-blank, state_test-with_link, state_test-with_state_same, state_test-with_state_other, state_test-with_bond, state_test-blank, link_test-blank, link_test-with_bond_other, link_test-with_bond_first, link_test-with_bond_second}
+use Rattle.kasa_graph.specs.Pattern.{agent_at, link_test, HasNodeSite, IsNoBond, blank_node, with_link, with_bond, IsPatternOver}
+use Rattle.kasa_graph.proofs.PatternLemmas.{same_site_or_not, link_test-with_link_other, HasNodeSite-with_link, link_test-with_state}
+use Rattle.kasa_graph.proofs.TestLemmas.{agent_at-same, types_of-blank, HasNodeSite-with_state, HasNodeSite-with_bond, HasNodeSite-blank, link_test-blank, link_test-with_bond_other}
+use Rattle.kasa_graph.proofs.OverLemmas.{AreKnown-[], AreKnown, AreKnown-cons, IsPatternOver-blank, IsPatternOver-with_state, IsPatternOver-with_link, IsPatternOver-with_bond}
 use Rattle.kasa_families.specs.declared.family.Family.{Family}
 use Rattle.kasa_families.specs.declared.family.Family.TheVariants.{View, Across, Parallel}
 use Rattle.kasa_families.specs.declared.row.LocalLink.{LocalLink}
@@ -28,54 +24,7 @@ use Rattle.kasa_families.specs.Pattern.{local_state_test, local_link_test, with_
 use Rattle.kasa_families.proofs.RowTests.{types_of-with_local, HasNodeSite-with_local, link_test-with_local_same, link_test-with_local_other}
 use Rattle.kasa_families.proofs.RowPattern.{typed_of, types_of-across_root, HasNodeSite-across_first, HasNodeSite-across_second, link_test-across_root_other}
 
--- ---- nodes have the sites and states of their types
-
--- the nodes of a pattern have just the sites of their types
-abbrev pub IsShaped : List TypeEntry → List Node → Type 0
-IsShaped sig g = (n : ℕ) (node : Node) → slice_get g n ≡ Some node → map (λ x. x.states) node.sites ≡ state_counts sig node.agent
-
-abbrev HasShape : List TypeEntry → Node → Type 0
-HasShape sig node = map (λ x. x.states) node.sites ≡ state_counts sig node.agent
-
-IsShaped-update : (sig : List TypeEntry) (g : List Node) (n : ℕ) (f : Node → Node) → ((node : Node) → HasShape sig node → HasShape sig (f node)) → IsShaped sig g → IsShaped sig (update g n f)
-IsShaped-update sig [] n f keeps ok k node e = absurd cc
-IsShaped-update sig (x ∷ g) zero f keeps ok zero node e = let same : f x ≡ node = cc in rw (← same) (keeps x (ok zero x refl))
-IsShaped-update sig (x ∷ g) zero f keeps ok (suc k) node e = ok (suc k) node e
-IsShaped-update sig (x ∷ g) (suc n) f keeps ok zero node e = ok zero node e
-IsShaped-update sig (x ∷ g) (suc n) f keeps ok (suc k) node e = IsShaped-update sig g n f keeps (λ i. ok (suc i)) k node e
-
-states-update : (sites : List SiteTests) (s : ℕ) (f : SiteTests → SiteTests) → ((x : SiteTests) → (f x).states ≡ x.states) → map (λ (x : SiteTests). x.states) (update sites s f) ≡ map (λ (x : SiteTests). x.states) sites
-states-update [] s f keeps = refl
-states-update (x ∷ sites) zero f keeps = ap (λ (k : ℕ). k ∷ map (λ (x : SiteTests). x.states) sites) (keeps x)
-states-update (x ∷ sites) (suc s) f keeps = ap (λ (ks : List ℕ). x.states ∷ ks) (states-update sites s f keeps)
-
-pub IsShaped-with_state : (sig : List TypeEntry) (g : List Node) (n s : ℕ) (t : StateTest) → IsShaped sig g → IsShaped sig (with_state g n s t)
-unfolding with_state
-IsShaped-with_state sig g n s t ok = IsShaped-update sig g n _ (λ node shape. states-update node.sites s (λ x. record x { state = t }) (λ x. refl) ∙ shape) ok
-
-pub IsShaped-with_link : (sig : List TypeEntry) (g : List Node) (n s : ℕ) (t : LinkTest) → IsShaped sig g → IsShaped sig (with_link g n s t)
-unfolding with_link
-IsShaped-with_link sig g n s t ok = IsShaped-update sig g n _ (λ node shape. states-update node.sites s (λ x. record x { link = t }) (λ x. refl) ∙ shape) ok
-
-counts-blank : (counts : List ℕ) → map (λ (x : SiteTests). x.states) (map blank_site counts) ≡ counts
-counts-blank [] = refl
-counts-blank (k ∷ counts) = ap (λ (ks : List ℕ). k ∷ ks) (counts-blank counts)
-
-pub IsShaped-blank : (sig : List TypeEntry) (types : List ℕ) → IsShaped sig (map (blank_node sig) types)
-unfolding blank_node
-IsShaped-blank sig [] k node e = absurd cc
-IsShaped-blank sig (a ∷ types) zero node e = let same : record { agent = a; sites = map blank_site (state_counts sig a) } ≡ node = cc in rw (← same) (counts-blank (state_counts sig a))
-IsShaped-blank sig (a ∷ types) (suc k) node e = IsShaped-blank sig types k node e
-
 -- ---- types that the signature has
-
-pub agent_at-node : (g : List Node) (n : ℕ) (node : Node) → slice_get g n ≡ Some node → agent_at g n ≡ Some node.agent
-unfolding agent_at
-agent_at-node g n node e = rw e refl
-
-pub node_of_agent : (g : List Node) (n a : ℕ) → agent_at g n ≡ Some a → (node : Node) × (slice_get g n ≡ Some node) × (node.agent ≡ a)
-unfolding agent_at
-node_of_agent g n a e = some_map (λ (x : Node). x.agent) (slice_get g n) a e
 
 -- a type that has a site is one of the signature's
 pub HasSite-known : (sig : List TypeEntry) (a s : ℕ) → HasSite sig a s → a < length sig
@@ -86,78 +35,6 @@ HasSite-known sig a s has = known sig a has
     known [] i h = absurd (omega arith)
     known (t ∷ types) zero h = omega arith
     known (t ∷ types) (suc i) h = let below = known types i h in omega arith
-
--- each of the types is one of the signature's
-abbrev pub AreKnown : List TypeEntry → List ℕ → Type 0
-AreKnown sig types = (n a : ℕ) → slice_get types n ≡ Some a → a < length sig
-
-pub AreKnown-[] : (sig : List TypeEntry) → AreKnown sig []
-AreKnown-[] sig n a e = absurd cc
-
-pub AreKnown-cons : (sig : List TypeEntry) (a : ℕ) (types : List ℕ) → a < length sig → AreKnown sig types → AreKnown sig (a ∷ types)
-AreKnown-cons sig a types known rest zero b e = let same : a ≡ b = cc in rw (← same) known
-AreKnown-cons sig a types known rest (suc n) b e = rest n b e
-
--- ---- changes that keep a pattern valid
-
-pub IsPatternOver-blank : (sig : List TypeEntry) (types : List ℕ) → AreKnown sig types → IsPatternOver sig (map (blank_node sig) types)
-IsPatternOver-blank sig types known = record {
-  linked = record { both_ways = λ n s m t e. absurd (let h = link_test-blank sig types n s in cc); apart = λ n s e. let h = link_test-blank sig types n s in cc };
-  types = λ n node e. known n node.agent (ap (λ (ts : List ℕ). slice_get ts n) (sym (types_of-blank sig types)) ∙ sym (agent_at-types (map (blank_node sig) types) n) ∙ agent_at-node (map (blank_node sig) types) n node e);
-  sites = IsShaped-blank sig types;
-  states = λ n s u a is e. absurd (let h = state_test-blank sig types n s in cc);
-  partners = λ n s b y e. absurd (let h = link_test-blank sig types n s in cc);
-}
-
-module _ (sig : List TypeEntry) (g : List Node) (over : IsPatternOver sig g) where
-  same_types : (h : List Node) → types_of h ≡ types_of g → (n : ℕ) (node : Node) → slice_get h n ≡ Some node → node.agent < length sig
-  same_types h same n node e =
-      let old = node_of_agent g n node.agent (sym (agent_at-same g h same n) ∙ agent_at-node h n node e) in
-      rw (← old.2) (over.types n old.0 old.1)
-
-  module _ (n s : ℕ) (has : HasNodeSite g n s) where
-    pub IsPatternOver-with_state : (t : StateTest) → ((u a : ℕ) → agent_at g n ≡ Some a → t ≡ state.Is u → HasState sig a s u) → IsPatternOver sig (with_state g n s t)
-    IsPatternOver-with_state t exists = record {
-      linked = IsPattern-same_links g (with_state g n s t) (link_test-with_state g n s t) over.linked;
-      types = same_types (with_state g n s t) (types_of-with_state g n s t);
-      sites = IsShaped-with_state sig g n s t over.sites;
-      states = λ k v u a is e.
-          let old = sym (agent_at-same g (with_state g n s t) (types_of-with_state g n s t) k) ∙ is in
-          elim (same_site_or_not n s k v) [
-            | inl same ↦ rw (← same.1) (exists u a (rw (← same.0) at old) (sym (state_test-with_state_same g n s t has) ∙ rw (← same.0, ← same.1) at e))
-            | inr other ↦ over.states k v u a old (sym (state_test-with_state_other g n s k v t other) ∙ e)
-          ];
-      partners = λ k v b y e. over.partners k v b y (sym (link_test-with_state g n s t k v) ∙ e);
-    }
-
-    pub IsPatternOver-with_link : (t : LinkTest) → IsNoBond (link_test g n s) → IsNoBond t → ((b y : ℕ) → t ≡ link.Partner b y → HasSite sig b y) → IsPatternOver sig (with_link g n s t)
-    IsPatternOver-with_link t old new exists = record {
-      linked = IsPattern-with_link g n s t over.linked has old new;
-      types = same_types (with_link g n s t) (types_of-with_link g n s t);
-      sites = IsShaped-with_link sig g n s t over.sites;
-      states = λ k v u a is e. over.states k v u a (sym (agent_at-same g (with_link g n s t) (types_of-with_link g n s t) k) ∙ is) (sym (state_test-with_link g n s t k v) ∙ e);
-      partners = λ k v b y e.
-          elim (same_site_or_not n s k v) [
-            | inl same ↦ exists b y (sym (link_test-with_link_same g n s t has) ∙ rw (← same.0, ← same.1) at e)
-            | inr other ↦ over.partners k v b y (sym (link_test-with_link_other g n s k v t other) ∙ e)
-          ];
-    }
-
-    pub IsPatternOver-with_bond : (m t : ℕ) → HasNodeSite g m t → (n ≡ m → s ≢ t) → IsNoBond (link_test g n s) → IsNoBond (link_test g m t) → IsPatternOver sig (with_bond g n s m t)
-    IsPatternOver-with_bond m t second differ first_open second_open = record {
-      linked = IsPattern-with_bond g n s m t has second differ over.linked first_open second_open;
-      types = same_types (with_bond g n s m t) (types_of-with_bond g n s m t);
-      sites = IsShaped-with_link sig _ m t (link.To n s) (IsShaped-with_link sig g n s (link.To m t) over.sites);
-      states = λ k v u a is e. over.states k v u a (sym (agent_at-same g (with_bond g n s m t) (types_of-with_bond g n s m t) k) ∙ is) (sym (state_test-with_bond g n s m t k v) ∙ e);
-      partners = λ k v b y e.
-          elim (link_test-with_bond g n s m t has second differ k v) [
-            | inl same ↦ let there : link.To m t ≡ link.Partner b y = sym (link_test-with_bond_first g n s m t has differ) ∙ rw (← same.0, ← same.1) at e in absurd cc
-            | inr rest ↦ elim rest [
-              | inl same ↦ let there : link.To n s ≡ link.Partner b y = sym (link_test-with_bond_second g n s m t second) ∙ rw (← same.0, ← same.1) at e in absurd cc
-              | inr other ↦ over.partners k v b y (sym other ∙ e)
-            ]
-          ];
-    }
 
 -- ---- local states
 
@@ -189,8 +66,9 @@ tested_link sig (Partner c z) b y ok e = let type : c ≡ b = cc in let site : z
 module _ (sig : List TypeEntry) (n a : ℕ) where
   pub IsPatternOver-with_local : (g : List Node) (s : ℕ) (l : Local) → IsPatternOver sig g → agent_at g n ≡ Some a → HasNodeSite g n s → IsNoBond (link_test g n s) → IsLocal sig a s l → IsPatternOver sig (with_local g n s l)
   IsPatternOver-with_local g s l over typed has unbound ok =
-      IsPatternOver-with_link sig _ (IsPatternOver-with_state sig g over n s has (local_state_test l.state) (λ u b is e. let same : a ≡ b = cc in rw same at (tested_state sig a s u _ l.state refl ok.state e))) n s
-      (HasNodeSite-with_state g n s n s (local_state_test l.state) has) (local_link_test l.link)
+      IsPatternOver-with_link sig _ n s (local_link_test l.link)
+      (IsPatternOver-with_state sig g n s (local_state_test l.state) over has (λ u b e is. let same : a ≡ b = cc in rw same at (tested_state sig a s u _ l.state refl ok.state e)))
+      (HasNodeSite-with_state g n s n s (local_state_test l.state) has)
       (rw (link_test-with_state g n s (local_state_test l.state) n s) unbound) (IsNoBond-local_link_test l.link) (λ b y e. tested_link sig l.link b y ok.link e)
 
   pub IsPatternOver-with_locals : (g : List Node) (sites : List ℕ) (locals : List Local) → IsPatternOver sig g → agent_at g n ≡ Some a → ((i s : ℕ) → slice_get sites i ≡ Some s → HasNodeSite g n s) → ((s : ℕ) → IsNoBond (link_test g n s)) → AreLocals sig a sites locals → IsPatternOver sig (with_locals g n sites locals)
@@ -228,7 +106,7 @@ CanJoin-with_bond g n s m t k u j v can at_first also_first at_second also_secon
 }
 
 pub IsPatternOver-joined : (sig : List TypeEntry) (g : List Node) (n s m t : ℕ) → IsPatternOver sig g → CanJoin g n s m t → IsPatternOver sig (with_bond g n s m t)
-IsPatternOver-joined sig g n s m t over can = IsPatternOver-with_bond sig g over n s can.first m t can.second can.differ can.first_unbound can.second_unbound
+IsPatternOver-joined sig g n s m t over can = IsPatternOver-with_bond sig g n s m t over can.first can.second can.differ can.first_unbound can.second_unbound
 
 module _ (sig : List TypeEntry) (a x p b y q : ℕ) (ok : IsFamily sig (Across a x p b y q)) where
   pub AreKnown-across : AreKnown sig (a ∷ b ∷ [])
@@ -277,9 +155,9 @@ module _ (sig : List TypeEntry) (a x u b y w : ℕ) (ok : IsFamily sig (Parallel
 
   IsPatternOver-parallel_root : IsPatternOver sig (root sig (Parallel a x u b y w))
   IsPatternOver-parallel_root =
-      IsPatternOver-with_link sig _
-      (IsPatternOver-with_link sig _ (IsPatternOver-blank sig (a ∷ []) AreKnown-alone) 0 x (HasNodeSite-blank sig (a ∷ []) 0 x a refl ok.0) (link.Partner b y) (IsNoBond-blank sig (a ∷ []) 0 x) tt (partner_known y ok.2))
-      0 u HasNodeSite-parallel_second (link.Partner b w) IsNoBond-parallel_second tt (partner_known w ok.3)
+      IsPatternOver-with_link sig _ 0 u (link.Partner b w)
+      (IsPatternOver-with_link sig _ 0 x (link.Partner b y) (IsPatternOver-blank sig (a ∷ []) AreKnown-alone) (HasNodeSite-blank sig (a ∷ []) 0 x a refl ok.0) (IsNoBond-blank sig (a ∷ []) 0 x) tt (partner_known y ok.2))
+      HasNodeSite-parallel_second IsNoBond-parallel_second tt (partner_known w ok.3)
     where
       partner_known : (v : ℕ) → HasSite sig b v → (c z : ℕ) → link.Partner b v ≡ link.Partner c z → HasSite sig c z
       partner_known v has c z e = let type : b ≡ c = cc in let site : v ≡ z = cc in rw (type, site) at has

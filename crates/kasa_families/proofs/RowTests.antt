@@ -18,7 +18,7 @@ Ascends-above x [] i y up e = absurd cc
 Ascends-above x (z ∷ xs) zero y up e = let same : z ≡ y = cc in rw (← same) up.0
 Ascends-above x (z ∷ xs) (suc i) y up e = let later = Ascends-above z xs i y up.1 e in let first = up.0 in omega arith
 
-Ascends-tail : (x : ℕ) (xs : List ℕ) → Ascends (x ∷ xs) → Ascends xs
+pub Ascends-tail : (x : ℕ) (xs : List ℕ) → Ascends (x ∷ xs) → Ascends xs
 Ascends-tail x [] up = tt
 Ascends-tail x (y ∷ xs) up = up.1
 

@@ -3,6 +3,7 @@
 
 mod compatible;
 mod family;
+mod first;
 pub mod laws;
 #[cfg(test)]
 mod listed;
@@ -15,7 +16,8 @@ mod valid;
 
 pub use compatible::{Spot, is_compatible};
 pub use family::{Family, Sites};
+pub use first::{first_among, first_type};
 pub use patterns::{pattern, root};
 pub use row::{Local, LocalLink, Locals, Row};
 pub use rows::{Missing, Origin, Rows, Verdict};
-pub use valid::{is_family, is_row};
+pub use valid::{has_shape, is_family, is_row};

@@ -1,5 +1,5 @@
 //! Worked families and rows.
-use crate::listed::{OneTable, has_shape};
+use crate::listed::OneTable;
 use crate::*;
 use kasa_graph::{Signature, is_name, write_pattern};
 use kasa_num::{AgentType, FamilyNo, SiteNo, StateNo};

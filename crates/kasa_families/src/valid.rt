@@ -4,6 +4,7 @@ ghost use Rattle.kasa_graph.specs.Signature.{state_counts, HasSite};
 ghost use Rattle.kasa_families.specs.declared.row.Local.{Local};
 ghost use Rattle.kasa_families.specs.Family.{Ascends, IsFamily};
 ghost use Rattle.kasa_families.specs.Row.{IsLocalState, IsLocalLink, IsLocal, AreLocals, IsRow};
+ghost use Rattle.kasa_families.specs.Table.{HasShape};
 
 use crate::{Family, Local, LocalLink, Row};
 use kasa_graph::Signature;
@@ -48,6 +49,22 @@ pub fn is_row(sig: &Signature, family: &Family, row: &Row) -> bool
         (Family::Across { a, p, b, q, .. }, Row::Locals(locals)) => {
             are_ends(sig, *a, *p, *b, *q, locals.as_slice())
         }
+        (Family::Parallel { .. }, Row::Same) => true,
+        (Family::Parallel { .. }, Row::Different) => true,
+        _ => false,
+    }
+}
+
+/// Whether a row has the shape of a family's rows: one local state for each site of a view, two for an across family, and
+/// `Same` or `Different` for a parallel family. It takes no memory.
+pub fn has_shape(family: &Family, row: &Row) -> bool
+    ensures { IsTrue result ↔ HasShape family.now row.now }
+{
+    match (family, row) {
+        (Family::View { agent: _, sites }, Row::Locals(locals)) => {
+            locals.as_slice().len() == sites.as_slice().len()
+        }
+        (Family::Across { .. }, Row::Locals(locals)) => locals.as_slice().len() == 2,
         (Family::Parallel { .. }, Row::Same) => true,
         (Family::Parallel { .. }, Row::Different) => true,
         _ => false,

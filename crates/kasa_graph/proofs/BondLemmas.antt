@@ -14,14 +14,15 @@ use Rattle.kasa_graph.specs.Pattern.{site_at, link_test, IsPattern}
 use Rattle.kasa_graph.specs.PatternText.{place, stands_before, begins_bond, first_ends_in, first_ends, bond_number}
 use Rattle.std.specs.Option.{option_map_or}
 use Rattle.std.specs.Prelude.{option_and_then}
-use Rattle.kasa_graph.proofs.ListLemmas.{some_then, below_or}
+use Rattle.kasa_graph.proofs.ListLemmas.{below_or, Has-append, Has-left, Has-right}
+use Rattle.kasa_graph.proofs.ShapeLemmas.{node_of_site}
 use Rattle.kasa_graph.specs.PatternTextParts.{sites_at, ends_before}
 
 -- the two sites are the same
 abbrev pub is_site : ℕ × ℕ → ℕ × ℕ → Bool
 is_site e f = nat_eq e.0 f.0 && nat_eq e.1 f.1
 
-same : (e f : ℕ × ℕ) → is_site e f ≡ true → e ≡ f
+pub same : (e f : ℕ × ℕ) → is_site e f ≡ true → e ≡ f
 same (a, b) (c, d) h = let first : a ≡ c = grind (arith, common_steps, nat_tests, h) in let second : b ≡ d = grind (arith, common_steps, nat_tests, h) in cc
 
 is : (e : ℕ × ℕ) → is_site e e ≡ true
@@ -100,26 +101,6 @@ place-append e [] rest (k, at) = absurd (none k at)
     none (suc k) h = cc
 place-append e (f ∷ ends) rest (zero, at) = let this : f ≡ e = cc in rw (this, is e)
 place-append e (f ∷ ends) rest (suc k, at) = ap (λ n. cond (not (is_site e f)) (1 + n) 0) (place-append e ends rest (k, at))
-
--- ---- elements of two lists end to end
-
-Has-append : {X : Type 0} (xs ys : List X) (x : X) → Has (xs ++ ys) x → Has xs x ⊎ Has ys x
-Has-append [] ys x h = inr h
-Has-append (y ∷ xs) ys x (zero, at) = inl (0, at)
-Has-append (y ∷ xs) ys x (suc k, at) = elim (Has-append xs ys x (k, at)) [ inl h ↦ inl (suc h.0, h.1) | inr h ↦ inr h ]
-
-Has-left : {X : Type 0} (xs ys : List X) (x : X) → Has xs x → Has (xs ++ ys) x
-Has-left [] ys x (k, at) = absurd (none k at)
-  where
-    none : (k : ℕ) → slice_get [] k ≡ Some x → ⊥
-    none zero h = cc
-    none (suc k) h = cc
-Has-left (y ∷ xs) ys x (zero, at) = (0, at)
-Has-left (y ∷ xs) ys x (suc k, at) = let h = Has-left xs ys x (k, at) in (suc h.0, h.1)
-
-Has-right : {X : Type 0} (xs ys : List X) (x : X) → Has ys x → Has (xs ++ ys) x
-Has-right [] ys x h = h
-Has-right (y ∷ xs) ys x h = let r = Has-right xs ys x h in (suc r.0, r.1)
 
 slice_get-take : {X : Type 0} (xs : List X) (n i : ℕ) → i < n → slice_get (take n xs) i ≡ slice_get xs i
 slice_get-take xs zero i h = absurd (omega arith)
@@ -212,12 +193,8 @@ slice_get-sites_at g n s = by (slice_get g n) s
     by None (suc s) = refl
     by (Some node) s = refl
 
-node_of_site : (g : List Node) (n s : ℕ) (x : SiteTests) → site_at g n s ≡ Some x → (node : Node) × (slice_get g n ≡ Some node) × (slice_get node.sites s ≡ Some x)
-unfolding site_at
-node_of_site g n s x at = some_then (λ (node : Node). slice_get node.sites s) (slice_get g n) x at
-
 -- a bond stands at a site
-site_of_bond : (g : List Node) (n s m t : ℕ) → link_test g n s ≡ To m t → (x : SiteTests) × (site_at g n s ≡ Some x) × (x.link ≡ To m t)
+pub site_of_bond : (g : List Node) (n s m t : ℕ) → link_test g n s ≡ To m t → (x : SiteTests) × (site_at g n s ≡ Some x) × (x.link ≡ To m t)
 unfolding link_test
 site_of_bond g n s m t h = by (site_at g n s) h
   where

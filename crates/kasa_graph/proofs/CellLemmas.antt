@@ -6,8 +6,8 @@ use Rattle.kasa_graph.specs.declared.mixture.Agent.{Agent}
 use Rattle.kasa_graph.specs.declared.mixture.AgentSite.{AgentSite}
 use Rattle.kasa_graph.specs.Signature.{TypeEntry}
 use Rattle.kasa_graph.specs.Signature.{state_counts}
-use Rattle.kasa_graph.specs.Mixture.{agent_in, type_in, site_in, partner_in, HasAgentSite, IsMixture, first_site, first_agent, change_site, with_agent_site, with_agent_state, with_partner, with_joined}
-use Rattle.kasa_graph.proofs.ListLemmas.{some_then, slice_get-update_same, slice_get-update_other, slice_set-update, update-same}
+use Rattle.kasa_graph.specs.Mixture.{agent_in, type_in, site_in, partner_in, HasAgentSite, IsMixture, IsSmallMixture, first_site, first_agent, change_site, with_agent_site, with_agent_state, with_partner, with_joined}
+use Rattle.kasa_graph.proofs.ListLemmas.{some_then, slice_get-update_same, slice_get-update_other, slice_set-update, update-same, length-update}
 use Rattle.kasa_graph.proofs.PatternLemmas.{same_site_or_not}
 
 -- ---- what stands in a cell
@@ -122,8 +122,23 @@ partner_in-push sig a (cell ∷ m) (suc c) s = partner_in-push sig a m c s
 
 -- ---- partners stay mutual
 
-pub IsMixture-of : (m k : List (Option Agent)) → k ≡ m → IsMixture m → IsMixture k
-IsMixture-of m k e ok = rw e ok
+pub IsSmallMixture-of : (m k : List (Option Agent)) → k ≡ m → IsSmallMixture m → IsSmallMixture k
+IsSmallMixture-of m k e ok = rw e ok
+
+-- mutual partners after a change that leaves as many cells
+pub IsSmallMixture-changed : (m k : List (Option Agent)) → IsSmallMixture m → IsMixture k → length k ≡ length m → IsSmallMixture k
+IsSmallMixture-changed m k ok linked same = record { linked = linked; few = rw same ok.few }
+
+pub length-with_agent_state : (m : List (Option Agent)) (c s u : ℕ) → length (with_agent_state m c s u) ≡ length m
+unfolding with_agent_state
+length-with_agent_state m c s u = length-update m c _
+
+pub length-with_partner : (m : List (Option Agent)) (c s : ℕ) (p : Option (ℕ × ℕ)) → length (with_partner m c s p) ≡ length m
+unfolding with_partner
+length-with_partner m c s p = length-update m c _
+
+pub length-with_joined : (m : List (Option Agent)) (c s d t : ℕ) → length (with_joined m c s d t) ≡ length m
+length-with_joined m c s d t = length-with_partner (with_partner m c s (Some (d, t))) d t (Some (c, s)) ∙ length-with_partner m c s (Some (d, t))
 
 pub IsMixture-[] : IsMixture []
 unfolding partner_in site_in agent_in

@@ -17,7 +17,7 @@ at_push [] y x (suc i) at = absurd (none i at)
 at_push (z ∷ xs) y x zero at = inl at
 at_push (z ∷ xs) y x (suc i) at = elim (at_push xs y x i at) [ inl e ↦ inl e | inr e ↦ inr (ap suc e.0, e.1) ]
 
-AllDifferent-push : {X : Type 0} (xs : List X) (y : X) → AllDifferent xs → ¬ Has xs y → AllDifferent (xs ++ y ∷ [])
+pub AllDifferent-push : {X : Type 0} (xs : List X) (y : X) → AllDifferent xs → ¬ Has xs y → AllDifferent (xs ++ y ∷ [])
 AllDifferent-push xs y different absent i j x p q = by (at_push xs y x i p) (at_push xs y x j q)
   where
     by : (slice_get xs i ≡ Some x) ⊎ ((i ≡ length xs) × (y ≡ x)) → (slice_get xs j ≡ Some x) ⊎ ((j ≡ length xs) × (y ≡ x)) → i ≡ j
@@ -35,7 +35,7 @@ AreNames-push most names name old absent is_name room = record {
 
 -- ---- one more type
 
-sites_of-new_type : (sig : List TypeEntry) (name : List ℕ) (a : ℕ) → sites_of (with_new_type sig name) a ≡ sites_of sig a
+pub sites_of-new_type : (sig : List TypeEntry) (name : List ℕ) (a : ℕ) → sites_of (with_new_type sig name) a ≡ sites_of sig a
 unfolding sites_of
 sites_of-new_type [] name zero = refl
 sites_of-new_type [] name (suc a) = refl
@@ -57,20 +57,20 @@ IsSignature-new_type sig name is absent is_name room = record {
 -- ---- one more site, one more state
 
 module _ (f : TypeEntry → TypeEntry) (keeps : (t : TypeEntry) → (f t).name ≡ t.name) where
-  type_names-update : (sig : List TypeEntry) (a : ℕ) → type_names (update sig a f) ≡ type_names sig
+  pub type_names-update : (sig : List TypeEntry) (a : ℕ) → type_names (update sig a f) ≡ type_names sig
   type_names-update [] a = refl
   type_names-update (t ∷ sig) zero = rw (keeps t)
   type_names-update (t ∷ sig) (suc a) = ap (λ names. t.name ∷ names) (type_names-update sig a)
 
-sites_of-update_same : (sig : List TypeEntry) (a : ℕ) (t : TypeEntry) (f : TypeEntry → TypeEntry) → slice_get sig a ≡ Some t → sites_of (update sig a f) a ≡ (f t).sites
+pub sites_of-update_same : (sig : List TypeEntry) (a : ℕ) (t : TypeEntry) (f : TypeEntry → TypeEntry) → slice_get sig a ≡ Some t → sites_of (update sig a f) a ≡ (f t).sites
 unfolding sites_of
 sites_of-update_same sig a t f at = rw (slice_get-update_same sig a f, at)
 
-sites_of-update_other : (sig : List TypeEntry) (a b : ℕ) (f : TypeEntry → TypeEntry) → a ≢ b → sites_of (update sig a f) b ≡ sites_of sig b
+pub sites_of-update_other : (sig : List TypeEntry) (a b : ℕ) (f : TypeEntry → TypeEntry) → a ≢ b → sites_of (update sig a f) b ≡ sites_of sig b
 unfolding sites_of
 sites_of-update_other sig a b f ne = rw (slice_get-update_other sig a b f ne)
 
-sites_of-at : (sig : List TypeEntry) (a : ℕ) (t : TypeEntry) → slice_get sig a ≡ Some t → sites_of sig a ≡ t.sites
+pub sites_of-at : (sig : List TypeEntry) (a : ℕ) (t : TypeEntry) → slice_get sig a ≡ Some t → sites_of sig a ≡ t.sites
 unfolding sites_of
 sites_of-at sig a t at = rw at
 
@@ -118,7 +118,7 @@ IsSignature-new_site sig a name is owner absent is_name room = record {
     states b x (inl e) = rw (← e, state_names-in (with_new_site sig a name) a x, grown, states_in-push, ← state_names-in sig a x) (is.states a x)
     states b x (inr ne) = rw (state_names-in (with_new_site sig a name) b x, other b ne, ← state_names-in sig b x) (is.states b x)
 
-site_names-with_state_name : (sites : List SiteEntry) (x : ℕ) (name : List ℕ) → map (λ s. s.name) (with_state_name sites x name) ≡ map (λ s. s.name) sites
+pub site_names-with_state_name : (sites : List SiteEntry) (x : ℕ) (name : List ℕ) → map (λ s. s.name) (with_state_name sites x name) ≡ map (λ s. s.name) sites
 site_names-with_state_name [] x name = refl
 site_names-with_state_name (s ∷ sites) zero name = refl
 site_names-with_state_name (s ∷ sites) (suc x) name = ap (λ names. s.name ∷ names) (site_names-with_state_name sites x name)

@@ -191,10 +191,6 @@ module _ (g : List Node) (n s m t : ℕ) (first : HasNodeSite g n s) (second : H
             ]
           ]
 
--- what equals a pattern is one
-pub IsPattern-of : (g h : List Node) → h ≡ g → IsPattern g → IsPattern h
-IsPattern-of g h e ok = rw e ok
-
 -- a node that has the site, seen by its number
 pub node_bound : (g : List Node) (n s : ℕ) → HasNodeSite g n s → n < length g
 node_bound g n s has = let node = has_node g n s has in slice_get_within g n node.0 node.2

@@ -2,12 +2,13 @@
 use Rattle.std.proofs.Common.{◌≡◌, ◌≢◌, ℕ, ◌+◌, ◌<◌, ◌≤◌, inl, inr, Bool, true, false, List, refl, ap, sym, ◌∙◌, map, length, arith, eq-eqb}
 use Rattle.std.proofs.lemmas.Bool.{eqb-true}
 use Rattle.std.specs.Prelude.{Option, Some, None, ◌==◌, if◌then◌else◌, slice_get, option_map, option_and_then}
+use Rattle.std.proofs.lemmas.List.{length-map}
 use Rattle.std.proofs.lemmas.Option.{slice_get-map, slice_get_within, some_pair_parts}
 use Rattle.kasa_graph.specs.declared.mixture.Agent.{Agent}
 use Rattle.kasa_graph.specs.declared.mixture.AgentSite.{AgentSite}
 use Rattle.kasa_graph.specs.Lists.{update}
 use Rattle.kasa_graph.specs.Mixture.{agent_in, site_in, partner_in, HasAgentSite, IsMixture, change_site, with_partner, partner_without, site_without, agent_without, removed}
-use Rattle.kasa_graph.proofs.ListLemmas.{same_or_not, some_then, slice_get-update_same, slice_get-update_other, map-update_same, map-same}
+use Rattle.kasa_graph.proofs.ListLemmas.{same_or_not, some_then, slice_get-update_same, slice_get-update_other, map-update_same, map-same, length-update}
 use Rattle.kasa_graph.proofs.PatternLemmas.{same_site_or_not}
 use Rattle.kasa_graph.proofs.CellLemmas.{cell_at, has_agent, has_partner, HasAgentSite-of, partner_in-with_partner_same, partner_in-with_partner_other}
 
@@ -102,6 +103,10 @@ partner_of_removed m c d t e u is =
 
 partner_kept : (m : List (Option Agent)) (c d t e u : ℕ) → c ≢ d → e ≢ c → partner_in m d t ≡ Some (e, u) → partner_in (removed m c) d t ≡ Some (e, u)
 partner_kept m c d t e u ne out is = partner_in-removed_other m c d t ne ∙ rw is (partner_without_outside c e u out)
+
+pub length-removed : (m : List (Option Agent)) (c : ℕ) → length (removed m c) ≡ length m
+unfolding removed
+length-removed m c = length-map (update m c (λ _. None)) (option_map (agent_without c)) ∙ length-update m c (λ _. None)
 
 pub IsMixture-removed : (m : List (Option Agent)) (c : ℕ) → IsMixture m → IsMixture (removed m c)
 IsMixture-removed m c ok = record {

@@ -1,6 +1,7 @@
 pub mod Lists
 pub mod Signature
 pub mod SignatureView
+pub mod SameNames
 pub mod Pattern
 pub mod PatternText
 pub mod PatternTextParts

@@ -1,5 +1,5 @@
 -- Mixtures: lists of cells, each empty or with an agent whose sites have states and partners.
-use Rattle.std.specs.Prelude.{◌≡◌, ◌≢◌, ℕ, zero, suc, ◌+◌, ◌<◌, ◌==◌, if◌then◌else◌, List, ◌++◌, length, map, Option, Some, None, IsSome, slice_get, option_map, option_and_then}
+use Rattle.std.specs.Prelude.{◌≡◌, ◌≢◌, ℕ, zero, suc, ◌+◌, ◌^◌, ◌<◌, ◌≤◌, ◌==◌, if◌then◌else◌, List, ◌++◌, length, map, Option, Some, None, IsSome, slice_get, option_map, option_and_then}
 use Rattle.kasa_graph.specs.declared.mixture.Agent.{Agent}
 use Rattle.kasa_graph.specs.declared.mixture.AgentSite.{AgentSite}
 use Rattle.kasa_graph.specs.Signature.{TypeEntry}
@@ -34,6 +34,11 @@ HasAgentSite m c s = IsSome (site_in m c s)
 pub record IsMixture (m : List (Option Agent)) : Type 0 where
   pub both_ways : (c s d t : ℕ) → partner_in m c s ≡ Some (d, t) → partner_in m d t ≡ Some (c, s)
   pub apart : (c s : ℕ) → partner_in m c s ≢ Some (c, s)
+
+-- a mixture of at most 2^31 cells, whose numbers fit the partners' type
+pub record IsSmallMixture (m : List (Option Agent)) : Type 0 where
+  pub linked : IsMixture m
+  pub few : length m ≤ 2 ^ 31
 
 -- a site has a state where it has states, which is one of them
 pub record IsAgentSite (x : AgentSite) : Type 0 where

@@ -2,6 +2,7 @@
 #![tactic(auto)]
 
 mod embedding;
+pub mod laws;
 mod mixture;
 mod pattern;
 mod refine;
@@ -16,4 +17,8 @@ pub use signature::{Signature, is_name};
 pub use text::write_pattern;
 
 #[cfg(test)]
+mod described;
+#[cfg(test)]
 mod tests;
+#[cfg(test)]
+mod text_tests;

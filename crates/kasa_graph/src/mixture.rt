@@ -33,14 +33,34 @@ impl Model for AgentSites {
     ghost view = { λ a. a.items.items };
 }
 
+impl PartialEq for AgentSites {
+    ghost use Rattle.std.specs.Cmp.Lexicographic.{pointwise, lists_per};
+    ghost use Rattle.kasa_graph.specs.contracts.mixture.AgentSitePartialEq.TheImpl.Laws.{laws-law as sites};
+
+    ghost eq = { pointwise ⟦<AgentSite as PartialEq>⟧.eq };
+
+    ghost laws = { lists_per sites };
+
+    fn eq(&self, other: &AgentSites) -> bool {
+        self.items == other.items
+    }
+}
+
+impl Eq for AgentSites {
+    ghost use Rattle.std.specs.Cmp.Lexicographic.{lists_equiv};
+    ghost use Rattle.kasa_graph.specs.contracts.mixture.AgentSiteEq.TheImpl.Laws.{laws-law as sites};
+
+    ghost laws = { lists_equiv sites };
+}
+
 /// An agent of a mixture.
-#[derive(Drop)]
+#[derive(Drop, PartialEq, Eq)]
 pub struct Agent {
     pub agent: AgentType,
     pub sites: AgentSites,
 }
 
-/// A mixture, whose partners are mutual and never a site itself.
+/// A mixture of at most 2^31 cells, whose partners are mutual and never a site itself.
 #[derive(Drop)]
 pub struct Mixture {
     alloc: Global,
@@ -53,11 +73,32 @@ impl Model for Mixture {
 
     ghost Value = { List (Option Agent) };
 
-    ghost use Rattle.kasa_graph.specs.Mixture.{IsMixture};
+    ghost use Rattle.kasa_graph.specs.Mixture.{IsSmallMixture};
 
     ghost view = { λ m. m.cells.items };
 
-    ghost invariant = { λ m. IsMixture m.cells.items };
+    ghost invariant = { λ m. IsSmallMixture m.cells.items };
+}
+
+impl PartialEq for Mixture {
+    ghost use Rattle.std.specs.Cmp.{partial_equiv_from_equiv};
+    ghost use Rattle.std.specs.Cmp.Lexicographic.{pointwise, lists_equiv, options_equiv};
+    ghost use Rattle.kasa_graph.specs.contracts.mixture.AgentEq.TheImpl.Laws.{laws-law as agents};
+
+    ghost eq = { pointwise ⟦<Option<Agent> as PartialEq>⟧.eq };
+
+    ghost laws = { partial_equiv_from_equiv (lists_equiv (options_equiv agents)) };
+
+    fn eq(&self, other: &Mixture) -> bool {
+        self.cells == other.cells
+    }
+}
+
+impl Eq for Mixture {
+    ghost use Rattle.std.specs.Cmp.Lexicographic.{lists_equiv, options_equiv};
+    ghost use Rattle.kasa_graph.specs.contracts.mixture.AgentEq.TheImpl.Laws.{laws-law as agents};
+
+    ghost laws = { lists_equiv (options_equiv agents) };
 }
 
 // The first of so many states.
@@ -206,9 +247,10 @@ impl Mixture {
         }
     }
 
-    /// How many cells there are, empty ones too.
+    /// How many cells there are, empty ones too, at most 2^31.
     pub fn cells(&self) -> usize
-        ensures { result ≡ length self.now }
+        ensures count { result ≡ length self.now }
+        ensures few { result ≤ 2 ^ 31 }
     {
         self.cells.len()
     }

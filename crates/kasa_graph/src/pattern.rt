@@ -51,14 +51,34 @@ impl Model for NodeSites {
     ghost view = { λ a. a.items.items };
 }
 
+impl PartialEq for NodeSites {
+    ghost use Rattle.std.specs.Cmp.Lexicographic.{pointwise, lists_per};
+    ghost use Rattle.kasa_graph.specs.contracts.pattern.SiteTestsPartialEq.TheImpl.Laws.{laws-law as tests};
+
+    ghost eq = { pointwise ⟦<SiteTests as PartialEq>⟧.eq };
+
+    ghost laws = { lists_per tests };
+
+    fn eq(&self, other: &NodeSites) -> bool {
+        self.items == other.items
+    }
+}
+
+impl Eq for NodeSites {
+    ghost use Rattle.std.specs.Cmp.Lexicographic.{lists_equiv};
+    ghost use Rattle.kasa_graph.specs.contracts.pattern.SiteTestsEq.TheImpl.Laws.{laws-law as tests};
+
+    ghost laws = { lists_equiv tests };
+}
+
 /// A node of a pattern.
-#[derive(Drop)]
+#[derive(Drop, PartialEq, Eq)]
 pub struct Node {
     pub agent: AgentType,
     pub sites: NodeSites,
 }
 
-/// A pattern, whose links are mutual and never lead from a site to itself.
+/// A pattern of at most 1,000 nodes, whose links are mutual and never lead from a site to itself.
 #[derive(Drop)]
 pub struct Pattern {
     alloc: Global,
@@ -66,7 +86,7 @@ pub struct Pattern {
 }
 
 impl Model for Pattern {
-    ghost use Rattle.std.specs.Prelude.{List};
+    ghost use Rattle.std.specs.Prelude.{List, ◌≤◌, length};
     ghost use Rattle.kasa_graph.specs.declared.pattern.Node.{Node};
 
     ghost Value = { List Node };
@@ -75,7 +95,27 @@ impl Model for Pattern {
 
     ghost view = { λ p. p.nodes.items };
 
-    ghost invariant = { λ p. IsPattern p.nodes.items };
+    ghost invariant = { λ p. IsPattern p.nodes.items × (length p.nodes.items ≤ 1000) };
+}
+
+impl PartialEq for Pattern {
+    ghost use Rattle.std.specs.Cmp.Lexicographic.{pointwise, lists_per};
+    ghost use Rattle.kasa_graph.specs.contracts.pattern.NodePartialEq.TheImpl.Laws.{laws-law as nodes};
+
+    ghost eq = { pointwise ⟦<Node as PartialEq>⟧.eq };
+
+    ghost laws = { lists_per nodes };
+
+    fn eq(&self, other: &Pattern) -> bool {
+        self.nodes == other.nodes
+    }
+}
+
+impl Eq for Pattern {
+    ghost use Rattle.std.specs.Cmp.Lexicographic.{lists_equiv};
+    ghost use Rattle.kasa_graph.specs.contracts.pattern.NodeEq.TheImpl.Laws.{laws-law as nodes};
+
+    ghost laws = { lists_equiv nodes };
 }
 
 impl NodeSites {
@@ -203,8 +243,8 @@ impl Pattern {
         }
     }
 
-    // An equal pattern that keeps another allocator.
-    pub(crate) fn copy_in(&self, alloc: Global) -> Result<Pattern, NoMemory>
+    /// An equal pattern that keeps another allocator.
+    pub fn copy_in(&self, alloc: Global) -> Result<Pattern, NoMemory>
         ensures { IfOk result (λ pattern. pattern ≡ self.now) }
     {
         Ok(Pattern {
@@ -220,9 +260,10 @@ impl Pattern {
         self.copy_in(self.alloc)
     }
 
-    /// How many nodes there are.
+    /// How many nodes there are, at most 1,000.
     pub fn nodes(&self) -> usize
-        ensures { result ≡ length self.now }
+        ensures count { result ≡ length self.now }
+        ensures few { result ≤ 1000 }
     {
         self.nodes.len()
     }
@@ -249,6 +290,16 @@ impl Pattern {
         ensures { (s : ℕ) → site_at self.now node s ≡ slice_get result.now s }
     {
         self.nodes[node].sites.as_slice()
+    }
+
+    /// The tests at the sites of a node, in the order of the sites. It takes no memory.
+    pub fn site_tests(&self, node: NodeNo) -> &[SiteTests]
+        requires { node < length self.now }
+        ensures tests { (s : ℕ) → site_at self.now node s ≡ slice_get result.now s }
+        ensures linked { IsPattern self.now }
+    {
+        let _ = &self.nodes;
+        self.tests(node.0 as usize)
     }
 
     /// The state test at a site.

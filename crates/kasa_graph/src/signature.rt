@@ -1,9 +1,11 @@
 // Signatures: types of agents, their sites and the states of these, by their names.
 ghost use Rattle.std.specs.Prelude.{◌≡◌, ℕ, ◌+◌, ◌<◌, ◌≤◌, ◌↔◌, [], length, Some, slice_get, map, option_map, IsTrue, MatchOption, IfSome, IfOk, OnOk, OnErr};
 ghost use Rattle.std.specs.Option.{option_map_or};
+ghost use Rattle.std.specs.Cmp.Lexicographic.{pointwise};
 ghost use Rattle.kasa_graph.specs.Lists.{Has};
-ghost use Rattle.kasa_graph.specs.SignatureView.{name_bytes, site_entry};
-ghost use Rattle.kasa_graph.specs.Signature.{sites_of, state_counts, state_names, type_names, site_names, HasSite, with_new_type, with_new_site, with_state_name, with_new_state, IsName, IsNameByte, IsSignature};
+ghost use Rattle.kasa_graph.specs.SignatureView.{name_bytes, site_entry, type_entry};
+ghost use Rattle.kasa_graph.specs.SameNames.{same_name, same_site, same_type};
+ghost use Rattle.kasa_graph.specs.Signature.{SiteEntry, TypeEntry, sites_of, state_counts, state_names, type_names, site_names, HasSite, with_new_type, with_new_site, with_state_name, with_new_state, IsName, IsNameByte, IsSignature};
 
 use indexmap::{IndexMap, IndexSet};
 use kasa_num::{AgentType, NoMemory, SiteNo, StateNo};
@@ -34,7 +36,76 @@ impl Model for Signature {
     ghost invariant = { λ s. IsSignature (type_entries s) };
 }
 
+// Whether two sites of one number have one name and the same states, in order.
+fn same_site_at(sites: &SiteNames, others: &SiteNames, site: usize) -> bool
+    ensures { (x y : SiteEntry) → slice_get (map site_entry sites.now.entries) site ≡ Some x → slice_get (map site_entry others.now.entries) site ≡ Some y → result ≡ same_site x y }
+{
+    let Some((name, states)) = sites.get_index(site) else {
+        return false;
+    };
+    let Some((other, others)) = others.get_index(site) else {
+        return false;
+    };
+    name == other && states.as_slice() == others.as_slice()
+}
+
+// Whether two types have the same sites, in order.
+fn same_sites(sites: &SiteNames, others: &SiteNames) -> bool
+    ensures { result ≡ pointwise same_site (map site_entry sites.now.entries) (map site_entry others.now.entries) }
+{
+    if sites.len() != others.len() {
+        return false;
+    }
+    for site in 0..sites.len() {
+        if !same_site_at(sites, others, site) {
+            return false;
+        }
+    }
+    true
+}
+
+impl PartialEq for Signature {
+    ghost use Rattle.std.specs.Cmp.{partial_equiv_from_equiv};
+    ghost use Rattle.std.specs.Cmp.Lexicographic.{pointwise};
+    ghost use Rattle.kasa_graph.specs.SameNames.{same_type, same_types_equiv};
+
+    ghost eq = { pointwise same_type };
+
+    ghost laws = { partial_equiv_from_equiv same_types_equiv };
+
+    fn eq(&self, other: &Signature) -> bool {
+        if self.types() != other.types() {
+            return false;
+        }
+        for agent in 0..self.types() {
+            if !self.same_type_at(other, agent) {
+                return false;
+            }
+        }
+        true
+    }
+}
+
+impl Eq for Signature {
+    ghost use Rattle.kasa_graph.specs.SameNames.{same_types_equiv};
+
+    ghost laws = { same_types_equiv };
+}
+
 impl Signature {
+    // Whether two types of one number have one name and the same sites, in order.
+    fn same_type_at(&self, other: &Signature, agent: usize) -> bool
+        ensures { (x y : TypeEntry) → slice_get self.now agent ≡ Some x → slice_get other.now agent ≡ Some y → result ≡ same_type x y }
+    {
+        let Some((name, sites)) = self.types.get_index(agent) else {
+            return false;
+        };
+        let Some((other, others)) = other.types.get_index(agent) else {
+            return false;
+        };
+        name == other && same_sites(sites, others)
+    }
+
     /// The signature without types.
     pub fn new(alloc: Global) -> Signature
         ensures { result ≡ [] }

@@ -150,6 +150,39 @@ fn meets_of_link_tests(rt: HostRuntime) {
     }
 }
 
+// The link test at the hub's port of the meet, of which the lock stays without tests.
+fn met_at_port(alloc: Global, rt: &impl Abort, g: &Pattern, test: LinkTest) -> Option<LinkTest> {
+    assert!(rt; has_site(g, NodeNo(0), PORT));
+    if let LinkTest::To(m, t) = test {
+        assert!(rt; has_site(g, m, t));
+    }
+    let met = meet(alloc, g, NodeNo(0), PORT, Test::Link(test)).expect(rt, "memory");
+    match met {
+        None => None,
+        Some(h) => {
+            assert_eq!(rt; link(rt, &h, 0, LOCK), LinkTest::Any);
+            Some(link(rt, &h, 0, PORT))
+        }
+    }
+}
+
+#[test]
+fn a_bound_hub_is_not_free_and_may_have_a_partner(rt: HostRuntime) {
+    let alloc = rt.alloc();
+    let sig = yard(alloc, &rt);
+    let mut g = Pattern::new(alloc);
+    add_nodes(&rt, &sig, &mut g, &[HUB]);
+    assert!(&rt; refine_link(&rt, &mut g, 0, PORT, LinkTest::Bound));
+    let free = met_at_port(alloc, &rt, &g, LinkTest::Free);
+    assert_eq!(&rt; free, None);
+    let bound = met_at_port(alloc, &rt, &g, LinkTest::Partner(CART, NOSE));
+    assert_eq!(&rt; bound, Some(LinkTest::Partner(CART, NOSE)));
+    let copy = g.copy().expect(&rt, "memory");
+    assert_eq!(&rt; copy.nodes(), 1);
+    assert_eq!(&rt; link(&rt, &copy, 0, PORT), LinkTest::Bound);
+    assert_eq!(&rt; link(&rt, &copy, 0, LOCK), LinkTest::Any);
+}
+
 #[test]
 fn further_tests_in_place(rt: HostRuntime) {
     let sig = yard(rt.alloc(), &rt);

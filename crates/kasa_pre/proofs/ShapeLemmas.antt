@@ -1,7 +1,6 @@
 -- Sites of patterns and of mixtures over one signature.
-use Rattle.std.proofs.Common.{◌≡◌, ℕ, ◌<◌, ◌⊎◌, inl, inr, List, refl, sym, ap, ◌∙◌, length, map}
-use Rattle.std.specs.Prelude.{Option, Some, None, slice_get, option_map}
-use Rattle.std.specs.Option.{option_map_or}
+use Rattle.std.proofs.Common.{◌≡◌, ℕ, ◌<◌, List, sym, ap, ◌∙◌, length}
+use Rattle.std.specs.Prelude.{Option, Some, slice_get, option_map}
 use Rattle.std.proofs.lemmas.List.{length-map}
 use Rattle.std.proofs.lemmas.Option.{slice_get-map, slice_get_within}
 use Rattle.kasa_graph.specs.declared.pattern.Node.{Node}
@@ -9,39 +8,12 @@ use Rattle.kasa_graph.specs.declared.pattern.SiteTests.{SiteTests}
 use Rattle.kasa_graph.specs.declared.mixture.Agent.{Agent}
 use Rattle.kasa_graph.specs.declared.mixture.AgentSite.{AgentSite}
 use Rattle.kasa_graph.specs.Signature.{TypeEntry}
-use Rattle.kasa_graph.specs.declared.pattern.StateTest.TheVariants as state
-use Rattle.kasa_graph.specs.declared.pattern.LinkTest.TheVariants as link
 use Rattle.kasa_graph.specs.Signature.{state_counts}
-use Rattle.kasa_graph.specs.Pattern.{agent_at, site_at, state_test, link_test}
+use Rattle.kasa_graph.specs.Pattern.{agent_at, site_at}
 use Rattle.kasa_graph.specs.Mixture.{type_in, site_in, IsMixtureOver}
-use Rattle.kasa_graph.proofs.ListLemmas.{some_then, some_map}
+use Rattle.kasa_graph.proofs.ShapeLemmas.{IsShaped, agent_at-node, node_of_site}
 use Rattle.kasa_graph.proofs.MixtureLemmas.{site_of_type}
 use Rattle.kasa_rules.proofs.FiredLemmas.{agent_of_site, type_of_agent}
-
--- the nodes of a pattern have just the sites of their types
-abbrev pub IsShaped : List TypeEntry → List Node → Type 0
-IsShaped sig g = (n : ℕ) (node : Node) → slice_get g n ≡ Some node → map (λ x. x.states) node.sites ≡ state_counts sig node.agent
-
-pub agent_at-node : (g : List Node) (n : ℕ) (node : Node) → slice_get g n ≡ Some node → agent_at g n ≡ Some node.agent
-unfolding agent_at
-agent_at-node g n node e = rw e refl
-
-pub node_of_agent : (g : List Node) (n a : ℕ) → agent_at g n ≡ Some a → (node : Node) × (slice_get g n ≡ Some node) × (node.agent ≡ a)
-unfolding agent_at
-node_of_agent g n a e = some_map (λ (x : Node). x.agent) (slice_get g n) a e
-
-pub node_of_site : (g : List Node) (n s : ℕ) (x : SiteTests) → site_at g n s ≡ Some x → (node : Node) × (slice_get g n ≡ Some node) × (slice_get node.sites s ≡ Some x)
-unfolding site_at
-node_of_site g n s x e = some_then (λ (node : Node). slice_get node.sites s) (slice_get g n) x e
-
--- there is such a site, or nothing is asked of it
-pub site_or_any : (g : List Node) (n s : ℕ) → ((x : SiteTests) × (site_at g n s ≡ Some x)) ⊎ ((state_test g n s ≡ state.Any) × (link_test g n s ≡ link.Any))
-unfolding state_test link_test
-site_or_any g n s = by_site (site_at g n s) refl
-  where
-    by_site : (o : Option SiteTests) → site_at g n s ≡ o → ((x : SiteTests) × (site_at g n s ≡ Some x)) ⊎ ((option_map_or (λ (x : SiteTests). x.state) (site_at g n s) state.Any ≡ state.Any) × (option_map_or (λ (x : SiteTests). x.link) (site_at g n s) link.Any ≡ link.Any))
-    by_site None e = inr (rw e refl, rw e refl)
-    by_site (Some x) e = inl (x, e)
 
 module _ (sig : List TypeEntry) (m : List (Option Agent)) (over : IsMixtureOver sig m) where
   -- a site of a cell is one of the cell's type

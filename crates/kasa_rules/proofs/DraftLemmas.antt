@@ -9,7 +9,7 @@ use Rattle.kasa_graph.specs.declared.pattern.SiteTests.{SiteTests}
 use Rattle.kasa_graph.specs.declared.pattern.LinkTest.TheVariants.{Any, To}
 use Rattle.kasa_graph.specs.Signature.{SiteEntry, TypeEntry, sites_of, state_counts}
 use Rattle.kasa_graph.specs.Pattern.{agent_at, site_at, link_test, HasNodeSite, IsPattern, IsPatternOver}
-use Rattle.kasa_graph.proofs.ListLemmas.{same_or_not, some_map, some_then, slice_get-update_other}
+use Rattle.kasa_graph.proofs.ListLemmas.{same_or_not, some_map, some_then, slice_get-update_other, length-update, pushed_or, slice_get-pushed, take-next}
 use Rattle.kasa_graph.proofs.PatternLemmas.{node_bound}
 use Rattle.kasa_graph.proofs.SignatureLemmas.{map-push}
 use Rattle.kasa_rules.specs.declared.rule.Fate.TheVariants.{Deleted, Kept}
@@ -22,8 +22,9 @@ use Rattle.kasa_rules.specs.declared.rule.NodeAction.{NodeAction}
 use Rattle.kasa_rules.specs.declared.rule.MadeSite.{MadeSite}
 use Rattle.kasa_rules.specs.declared.rule.MadeAgent.{MadeAgent}
 use Rattle.kasa_rules.specs.Rule.{RuleParts, fate_at, action_at, written_state, written_link, made_type, made_site, made_link, touched, end_link, IsDraft, IsDraftOver, HasWholeBonds, HasFewAgents}
-use Rattle.kasa_rules.specs.Draft.{no_action, keep_node, new_draft, first_state, new_site, new_agent, with_made, delete_node, with_deleted, change_made, with_written_state, with_written_link, with_written_bond, HasEndSite, end_states, HasEndState, IsOpen, IsUnwritten, IsHalfBond, HasActions, HasListed}
-use Rattle.kasa_rules.proofs.ListUpdates.{length-update, map-update, option_map-update, option_then-update, all-update, at_both-change_same, at_both-change_other, lengths-change, then-change, map-change, some_beside, some_same, pushed_or, slice_get-pushed, take-next}
+use Rattle.kasa_graph.specs.Mixture.{first_state}
+use Rattle.kasa_rules.specs.Draft.{no_action, keep_node, new_draft, new_site, new_agent, with_made, delete_node, with_deleted, change_made, with_written_state, with_written_link, with_written_bond, HasEndSite, end_states, HasEndState, IsOpen, IsUnwritten, IsHalfBond, HasActions, HasListed}
+use Rattle.kasa_graph.proofs.ListUpdates.{map-update, option_map-update, option_then-update, all-update, at_both-change_same, at_both-change_other, lengths-change, then-change, map-change, some_beside, some_same}
 
 -- two ends are the same site, or not
 pub same_end_or_not : (e f : End) (s t : ℕ) → ((e ≡ f) × (s ≡ t)) ⊎ (e ≡ f → s ≢ t)
@@ -423,7 +424,7 @@ made_site-state r (Made n) s u k t x at =
           (x, sym (at_both-change_other (λ (a : MadeAgent). a.sites) (λ a ys. record a { sites = ys }) (λ _ _. refl) r.made n s k t (λ y. record y { state = Some u }) (λ e. ne (ap Made e))) ∙ at, refl, inl refl)
     ]
 
-left-state : (r : RuleParts) (e : End) (s u : ℕ) → (with_written_state r e s u).left ≡ r.left
+pub left-state : (r : RuleParts) (e : End) (s u : ℕ) → (with_written_state r e s u).left ≡ r.left
 unfolding with_written_state
 left-state r e s u = refl
 

@@ -15,7 +15,7 @@ use Rattle.kasa_rules.specs.declared.rule.End.TheVariants.{Left, Made}
 use Rattle.kasa_rules.specs.declared.rule.Written.{Written}
 use Rattle.kasa_rules.specs.declared.rule.Written.TheVariants.{To}
 use Rattle.kasa_rules.specs.Rule.{RuleParts, fate_at, action_at, written_state, written_link, touches, touched, made_site, made_link, IsDraft}
-use Rattle.kasa_rules.specs.Draft.{new_draft, new_site, new_agent, with_made, with_written_state, with_written_link, with_written_bond, HasEndSite, HasEndState, IsOpen, IsUnwritten}
+use Rattle.kasa_rules.specs.Draft.{new_draft, new_site, new_agent, with_made, with_written_link, with_written_bond, HasEndSite, HasEndState, IsOpen, IsUnwritten}
 use Rattle.kasa_rules.proofs.DraftLemmas.{HasListed-link, new_written, site_count}
 
 has_fate : (r : RuleParts) (n : ℕ) → n < length r.actions → (f : Fate) × (fate_at r n ≡ Some f)
@@ -68,7 +68,3 @@ made_site-bond r e f s t k u has = HasListed-link (with_written_link r e s (To f
 pub left-bond : (r : RuleParts) (e f : End) (s t : ℕ) → (with_written_bond r e s f t).left ≡ r.left
 unfolding with_written_link
 left-bond r e f s t = refl
-
-pub left-state : (r : RuleParts) (e : End) (s u : ℕ) → (with_written_state r e s u).left ≡ r.left
-unfolding with_written_state
-left-state r e s u = refl

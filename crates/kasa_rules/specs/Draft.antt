@@ -1,10 +1,11 @@
 -- Drafts of rules: what each change makes of a draft, and where it may be made.
-use Rattle.std.specs.Prelude.{◌≡◌, ℕ, zero, suc, ◌<◌, ◌≤◌, ◌⊎◌, true, false, List, [], ◌∷◌, ◌++◌, length, map, replicate, Option, Some, None, IsSome, slice_get, option_map, option_and_then}
+use Rattle.std.specs.Prelude.{◌≡◌, ℕ, ◌<◌, ◌≤◌, ◌⊎◌, true, false, List, [], ◌∷◌, ◌++◌, length, map, replicate, Option, Some, None, IsSome, slice_get, option_map, option_and_then}
 use Rattle.kasa_graph.specs.declared.pattern.Node.{Node}
 use Rattle.kasa_graph.specs.declared.pattern.LinkTest.TheVariants.{To}
 use Rattle.kasa_graph.specs.Lists.{update}
 use Rattle.kasa_graph.specs.Signature.{TypeEntry}
 use Rattle.kasa_graph.specs.Signature.{state_counts}
+use Rattle.kasa_graph.specs.Mixture.{first_state}
 use Rattle.kasa_graph.specs.Pattern.{site_at, link_test, HasNodeSite}
 use Rattle.kasa_rules.specs.declared.rule.Fate.TheVariants.{Deleted, Kept}
 use Rattle.kasa_rules.specs.declared.rule.End.{End}
@@ -29,11 +30,6 @@ keep_node node = record { fate = Kept; sites = replicate (length node.sites) no_
 -- all left nodes are kept, and nothing is written or created
 unfoldable pub new_draft : List ℕ → List Node → RuleParts
 new_draft name left = record { name = name; left = left; actions = map keep_node left; made = [] }
-
--- the first of so many states
-abbrev pub first_state : ℕ → Option ℕ
-first_state zero = None
-first_state (suc k) = Some zero
 
 -- a free site in its first state
 abbrev pub new_site : ℕ → MadeSite

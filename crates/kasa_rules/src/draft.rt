@@ -186,13 +186,13 @@ impl RuleDraft {
     }
 
     /// Writes a state at a site of a kept or of a created node. It takes no memory.
-    pub fn write_state(&mut self, e: End, site: SiteNo, state: StateNo)
-        requires exists { HasEndSite self.old e site }
-        requires known { HasEndState self.old e site state }
-        ensures draft { self.new ≡ with_written_state self.old e site state }
+    pub fn write_state(&mut self, end: End, site: SiteNo, state: StateNo)
+        requires exists { HasEndSite self.old «end» site }
+        requires known { HasEndState self.old «end» site state }
+        ensures draft { self.new ≡ with_written_state self.old «end» site state }
         ensures over { (sig : List TypeEntry) → IsDraftOver sig self.old → IsDraftOver sig self.new }
     {
-        put_state(&mut self.actions, &mut self.made, e, site, state);
+        put_state(&mut self.actions, &mut self.made, end, site, state);
     }
 
     /// Makes a site of a kept node free, where no link is written yet. It takes no memory.
@@ -302,7 +302,7 @@ impl RuleDraft {
 }
 
 #[cfg(test)]
-mod tests {
+pub(crate) mod tests {
     use super::*;
     use crate::touched;
     use kasa_graph::is_name;
@@ -371,7 +371,7 @@ mod tests {
     }
 
     // Whether a link may be written at a site of a left node.
-    fn is_open(draft: &RuleDraft, n: NodeNo, s: SiteNo) -> bool
+    pub(crate) fn is_open(draft: &RuleDraft, n: NodeNo, s: SiteNo) -> bool
         ensures { IsTrue result → HasEndSite draft.now (End.Left n) s × IsOpen draft.now (End.Left n) s }
     {
         if (n.0 as usize) >= draft.left.nodes() {
@@ -381,6 +381,13 @@ mod tests {
             return false;
         }
         !draft.touches(n, s)
+    }
+
+    // How many agents are created so far.
+    pub(crate) fn made(draft: &RuleDraft) -> usize
+        ensures { result ≡ length draft.now.made }
+    {
+        draft.made.len()
     }
 
     #[test]

@@ -1,14 +1,17 @@
 //! Laws of firings and of what a model reaches.
 
-ghost use Rattle.std.specs.Prelude.{◌≡◌, ◌<◌, ℕ, List, Option, length};
+ghost use Rattle.std.specs.Prelude.{◌≡◌, ◌<◌, ◌↔◌, ℕ, List, Option, IsTrue, length};
 ghost use Rattle.kasa_graph.specs.declared.mixture.Agent.{Agent};
 ghost use Rattle.kasa_graph.specs.Signature.{TypeEntry};
 ghost use Rattle.kasa_graph.specs.Mixture.{type_in, state_in, partner_in, IsMixtureOver};
 ghost use Rattle.kasa_graph.specs.Embedding.{IsEmbedding};
 ghost use Rattle.kasa_rules.specs.Rule.{RuleParts, IsRuleOver};
+ghost use Rattle.kasa_rules.specs.ModelParts.{ModelParts};
 ghost use Rattle.kasa_rules.specs.Firing.{fire, IsElsewhere, KeepsPartner};
 ghost use Rattle.kasa_rules.specs.declared.model.Model.{Model};
 ghost use Rattle.kasa_rules.specs.Reached.{Reached, IsModel};
+
+use crate::{Model, Rule};
 
 /// A firing keeps a mixture valid over the signature, with mutual links.
 pub fn firing_keeps_validity()
@@ -26,4 +29,11 @@ pub fn other_cells_keep_their_agents()
     ensures types { (r : RuleParts) (cells : List ℕ) (m : List (Option Agent)) (c : ℕ) → c < length m → IsElsewhere cells c → type_in (fire r cells m) c ≡ type_in m c }
     ensures states { (r : RuleParts) (cells : List ℕ) (m : List (Option Agent)) (c : ℕ) → c < length m → IsElsewhere cells c → (s : ℕ) → state_in (fire r cells m) c s ≡ state_in m c s }
     ensures partners { (r : RuleParts) (cells : List ℕ) (m : List (Option Agent)) (c : ℕ) → c < length m → IsElsewhere cells c → (s : ℕ) → KeepsPartner r cells (partner_in m c s) (partner_in (fire r cells m) c s) }
+{}
+
+/// `==` at rules and models is equality: of the name, the left pattern and all that is written and created, and of the
+/// signature, the inits and the rules.
+pub fn equal_is_the_same()
+    ensures rules { (r other : RuleParts) → IsTrue (⟦<Rule as PartialEq>⟧.eq r other) ↔ (r ≡ other) }
+    ensures models { (model other : ModelParts) → IsTrue (⟦<Model as PartialEq>⟧.eq model other) ↔ (model ≡ other) }
 {}

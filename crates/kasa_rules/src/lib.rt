@@ -12,3 +12,6 @@ pub use rule::{
     End, Fate, MadeAgent, MadeSite, MadeSites, NodeAction, Rule, SiteAction, SiteActions, Written,
     touched,
 };
+
+#[cfg(test)]
+mod tests;

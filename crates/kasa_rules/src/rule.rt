@@ -3,7 +3,8 @@ ghost use Rattle.std.specs.Prelude.{◌≡◌, ◌<◌, ◌≤◌, length, Some,
 ghost use Rattle.kasa_graph.specs.Lists.{update};
 ghost use Rattle.kasa_graph.specs.Signature.{state_counts};
 ghost use Rattle.kasa_graph.specs.Pattern.{HasNodeSite};
-ghost use Rattle.kasa_rules.specs.Draft.{no_action, first_state, new_site};
+ghost use Rattle.kasa_graph.specs.Mixture.{first_state};
+ghost use Rattle.kasa_rules.specs.Draft.{no_action, new_site};
 ghost use Rattle.kasa_rules.specs.Rule.{fate_at, written_state, written_link, made_type, made_site, made_state, made_link, touches, touched};
 
 use kasa_graph::{Pattern, Signature};
@@ -52,6 +53,26 @@ impl marker::Model for SiteActions {
     ghost Value = { List SiteAction };
 
     ghost view = { λ a. a.items.items };
+}
+
+impl PartialEq for SiteActions {
+    ghost use Rattle.std.specs.Cmp.Lexicographic.{pointwise, lists_per};
+    ghost use Rattle.kasa_rules.specs.contracts.rule.SiteActionPartialEq.TheImpl.Laws.{laws-law as actions};
+
+    ghost eq = { pointwise ⟦<SiteAction as PartialEq>⟧.eq };
+
+    ghost laws = { lists_per actions };
+
+    fn eq(&self, other: &SiteActions) -> bool {
+        self.items == other.items
+    }
+}
+
+impl Eq for SiteActions {
+    ghost use Rattle.std.specs.Cmp.Lexicographic.{lists_equiv};
+    ghost use Rattle.kasa_rules.specs.contracts.rule.SiteActionEq.TheImpl.Laws.{laws-law as actions};
+
+    ghost laws = { lists_equiv actions };
 }
 
 impl SiteActions {
@@ -107,7 +128,7 @@ impl SiteActions {
 }
 
 /// What a rule does to a left node.
-#[derive(Drop)]
+#[derive(Drop, PartialEq, Eq)]
 pub struct NodeAction {
     pub fate: Fate,
     pub sites: SiteActions,
@@ -134,6 +155,26 @@ impl marker::Model for MadeSites {
     ghost Value = { List MadeSite };
 
     ghost view = { λ a. a.items.items };
+}
+
+impl PartialEq for MadeSites {
+    ghost use Rattle.std.specs.Cmp.Lexicographic.{pointwise, lists_per};
+    ghost use Rattle.kasa_rules.specs.contracts.rule.MadeSitePartialEq.TheImpl.Laws.{laws-law as sites};
+
+    ghost eq = { pointwise ⟦<MadeSite as PartialEq>⟧.eq };
+
+    ghost laws = { lists_per sites };
+
+    fn eq(&self, other: &MadeSites) -> bool {
+        self.items == other.items
+    }
+}
+
+impl Eq for MadeSites {
+    ghost use Rattle.std.specs.Cmp.Lexicographic.{lists_equiv};
+    ghost use Rattle.kasa_rules.specs.contracts.rule.MadeSiteEq.TheImpl.Laws.{laws-law as sites};
+
+    ghost laws = { lists_equiv sites };
 }
 
 // The first of so many states.
@@ -187,7 +228,7 @@ impl MadeSites {
 }
 
 /// A created agent.
-#[derive(Drop)]
+#[derive(Drop, PartialEq, Eq)]
 pub struct MadeAgent {
     pub agent: AgentType,
     pub sites: MadeSites,
@@ -210,6 +251,36 @@ impl marker::Model for Rule {
     ghost view = { λ r. record { name = r.name; left = r.left; actions = r.actions.items; made = r.made.items } };
 
     ghost invariant = { λ r. let rule : RuleParts = record { name = r.name; left = r.left; actions = r.actions.items; made = r.made.items } in IsRule rule × HasFewAgents rule };
+}
+
+impl PartialEq for Rule {
+    ghost use Rattle.std.specs.Prelude.{nat_eq, ◌&&◌};
+    ghost use Rattle.std.specs.Cmp.{and_per, on_per, partial_equiv_from_equiv, nat_eq_equiv};
+    ghost use Rattle.std.specs.Cmp.Lexicographic.{pointwise, lists_per, lists_equiv};
+    ghost use Rattle.kasa_graph.specs.contracts.pattern.PatternPartialEq.TheImpl.Laws.{laws-law as patterns};
+    ghost use Rattle.kasa_rules.specs.contracts.rule.NodeActionPartialEq.TheImpl.Laws.{laws-law as actions};
+    ghost use Rattle.kasa_rules.specs.contracts.rule.MadeAgentPartialEq.TheImpl.Laws.{laws-law as agents};
+
+    ghost eq = { λ r q. pointwise nat_eq r.name q.name && (⟦<Pattern as PartialEq>⟧.eq r.left q.left && (pointwise ⟦<NodeAction as PartialEq>⟧.eq r.actions q.actions && pointwise ⟦<MadeAgent as PartialEq>⟧.eq r.made q.made)) };
+
+    ghost laws = { and_per (on_per (λ r. r.name) (partial_equiv_from_equiv (lists_equiv nat_eq_equiv))) (and_per (on_per (λ r. r.left) patterns) (and_per (on_per (λ r. r.actions) (lists_per actions)) (on_per (λ r. r.made) (lists_per agents)))) };
+
+    fn eq(&self, other: &Rule) -> bool {
+        self.name == other.name
+            && self.left == other.left
+            && self.actions == other.actions
+            && self.made == other.made
+    }
+}
+
+impl Eq for Rule {
+    ghost use Rattle.std.specs.Cmp.{and_equiv, on_equiv, nat_eq_equiv};
+    ghost use Rattle.std.specs.Cmp.Lexicographic.{lists_equiv};
+    ghost use Rattle.kasa_graph.specs.contracts.pattern.PatternEq.TheImpl.Laws.{laws-law as patterns};
+    ghost use Rattle.kasa_rules.specs.contracts.rule.NodeActionEq.TheImpl.Laws.{laws-law as actions};
+    ghost use Rattle.kasa_rules.specs.contracts.rule.MadeAgentEq.TheImpl.Laws.{laws-law as agents};
+
+    ghost laws = { and_equiv (on_equiv (λ r. r.name) (lists_equiv nat_eq_equiv)) (and_equiv (on_equiv (λ r. r.left) patterns) (and_equiv (on_equiv (λ r. r.actions) (lists_equiv actions)) (on_equiv (λ r. r.made) (lists_equiv agents)))) };
 }
 
 // What is written at a site of a left node.

@@ -1,4 +1,5 @@
 -- A row that is given is initial or yielded: what is known before a rule is a pattern, of one node, that the tables allow.
+use Rattle.kasa_top.proofs.GateRules.{length-gate_sites}
 use Rattle.std.proofs.Common.{◌≡◌, ◌≢◌, ℕ, zero, suc, ◌+◌, ◌<◌, ◌≤◌, ◌⊎◌, inl, inr, Bool, true, false, List, [], ◌∷◌, ◌++◌, length, map, refl, sym, ap, ◌∙◌, arith}
 use Rattle.std.specs.Prelude.{⊤, Option, Some, None, MatchOption, slice_get, option_map, option_and_then}
 use Rattle.std.specs.Option.{option_map_or}
@@ -47,12 +48,6 @@ unfolding gate_site
 gate_site-beyond [] s h = refl
 gate_site-beyond (x ∷ sites) zero h = absurd (omega arith)
 gate_site-beyond (x ∷ sites) (suc s) h = gate_site-beyond sites s (omega arith)
-
-pub length-gate_sites : (counts : List ℕ) (sites : List GateSite) → AreGateSites counts sites → length sites ≡ length counts
-length-gate_sites [] [] ok = refl
-length-gate_sites (k ∷ counts) (x ∷ sites) ok = ap suc (length-gate_sites counts sites ok.1)
-length-gate_sites [] (x ∷ sites) ok = absurd ok
-length-gate_sites (k ∷ counts) [] ok = absurd ok
 
 pub length-choices : (counts row : List (Option ℕ)) → AreChoices counts row → length row ≡ length counts
 length-choices [] [] ok = refl

@@ -8,7 +8,7 @@ use Rattle.std.proofs.lemmas.List.{append-nil, take_more, take-map, map_push, le
 use Rattle.std.proofs.lemmas.Option.{slice_get-get_or, slice_get-map, slice_get_within}
 use Rattle.kasa_graph.specs.Lists.{update, Has, AllDifferent}
 use Rattle.kasa_graph.specs.Signature.{SiteEntry, TypeEntry, type_names, sites_of, state_names, state_counts, HasSite, IsNameByte, IsName}
-use Rattle.kasa_graph.proofs.ListLemmas.{slice_get-update_same, slice_get-append_left, slice_get-append_right, some_at, below_or}
+use Rattle.kasa_graph.proofs.ListLemmas.{length-update, slice_get-update_same, slice_get-append_left, slice_get-append_right, some_at, below_or}
 use Rattle.kasa_graph.proofs.SignatureLemmas.{site_within, type_of_site}
 use Rattle.kasa_top.specs.GateText.{is_letter, is_digit, is_letter_or_digit, is_gate_name, IsGateName, IsSiteLine, IsTypeLine, HaveDifferentNames, AreTypes}
 use Rattle.kasa_top.specs.GateNumbers.{with_new_sites, with_new_states, IsNewSite, IsNewType}
@@ -106,11 +106,6 @@ update-end [] x zero f e = refl
 update-end [] x (suc n) f e = absurd (omega arith)
 update-end (y ∷ xs) x zero f e = absurd (omega arith)
 update-end (y ∷ xs) x (suc n) f e = ap (λ ys. y ∷ ys) (update-end xs x n f (omega arith))
-
-length-update : {X : Type 0} (xs : List X) (i : ℕ) (f : X → X) → length (update xs i f) ≡ length xs
-length-update [] i f = refl
-length-update (x ∷ xs) zero f = refl
-length-update (x ∷ xs) (suc i) f = ap suc (length-update xs i f)
 
 -- ---- a site with its states
 

@@ -1,4 +1,5 @@
 -- Ascending lists of numbers, and which numbers stand in them.
+use Rattle.kasa_families.proofs.RowTests.{Ascends-tail}
 use Rattle.std.proofs.Common.{Bool, true, false, IsTrue, ◌≡◌, ◌≢◌, ℕ, zero, suc, ◌+◌, ◌-◌, ◌<◌, ◌≤◌, ◌⊎◌, inl, inr, List, [], ◌∷◌, ◌++◌, length, get_or, refl, ap, subst, sym, ◌∙◌, arith}
 use Rattle.std.specs.Prelude.{Some, slice_get}
 use Rattle.std.specs.List.{list_any}
@@ -98,10 +99,6 @@ none_listed [] b told is_true = refl
 none_listed (x ∷ xs) b told is_true = let zero_long : suc (length xs) ≡ 0 = eqb-true (suc (length xs)) 0 (sym told ∙ is_true) in absurd (omega arith)
 
 -- ---- ascending lists
-
-pub Ascends-tail : (x : ℕ) (xs : List ℕ) → Ascends (x ∷ xs) → Ascends xs
-Ascends-tail x [] up = tt
-Ascends-tail x (y ∷ xs) up = up.1
 
 -- the first is less than each other one
 pub Ascends-head : (x : ℕ) (xs : List ℕ) (y : ℕ) → Ascends (x ∷ xs) → Has xs y → x < y

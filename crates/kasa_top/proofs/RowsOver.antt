@@ -1,24 +1,13 @@
 -- The rows over sites of so many states: each is one, all are there, and they ascend.
+use Rattle.kasa_graph.proofs.ListLemmas.{Has-append, Has-left, Has-right}
 use Rattle.std.proofs.Common.{◌≡◌, ◌≢◌, ℕ, zero, suc, ◌+◌, ◌<◌, ◌≤◌, ◌⊎◌, inl, inr, List, [], ◌∷◌, ◌++◌, length, map, refl, sym, ap, ◌∙◌, arith}
 use Rattle.std.specs.Prelude.{⊤, Option, Some, None, slice_get, option_map}
-use Rattle.std.proofs.lemmas.Option.{slice_get-map, slice_get_within}
+use Rattle.std.proofs.lemmas.Option.{slice_get-map}
 use Rattle.kasa_graph.specs.Lists.{Has}
-use Rattle.kasa_graph.proofs.ListLemmas.{same_or_not, some_map, below_or, slice_get-append_left, slice_get-append_right}
-use Rattle.kasa_top.specs.Rounds.{state_of, rows_below, rows_after, rows_over}
+use Rattle.kasa_graph.proofs.ListLemmas.{same_or_not, some_map, below_or}
+use Rattle.kasa_top.specs.Rounds.{state_of, rows_below, rows_over}
 
 -- ---- elements of lists
-
-pub Has-left : {X : Type 0} (xs ys : List X) (x : X) → Has xs x → Has (xs ++ ys) x
-Has-left xs ys x has = (has.0, slice_get-append_left xs ys has.0 (slice_get_within xs has.0 x has.1) ∙ has.1)
-
-pub Has-right : {X : Type 0} (xs ys : List X) (x : X) → Has ys x → Has (xs ++ ys) x
-Has-right xs ys x has = (length xs + has.0, slice_get-append_right xs ys has.0 (length xs + has.0) refl ∙ has.1)
-
-pub Has-either : {X : Type 0} (xs ys : List X) (x : X) → Has (xs ++ ys) x → Has xs x ⊎ Has ys x
-Has-either xs ys x has = elim (below_or has.0 (length xs)) [
-  | inl below ↦ inl (has.0, sym (slice_get-append_left xs ys has.0 below) ∙ has.1)
-  | inr above ↦ inr (above.0, sym (slice_get-append_right xs ys above.0 has.0 above.1) ∙ has.1)
-]
 
 pub Has-map : {X Y : Type 0} (f : X → Y) (xs : List X) (y : Y) → Has (map f xs) y → (x : X) × Has xs x × (f x ≡ y)
 Has-map f xs y has =
@@ -92,7 +81,7 @@ choice_at (c ∷ counts) [] s ok = absurd ok
 
 below_from : (k : ℕ) (rows : List (List (Option ℕ))) (row : List (Option ℕ)) → Has (rows_below k rows) row → (u : ℕ) × (u < k) × (rest : List (Option ℕ)) × Has rows rest × (Some u ∷ rest ≡ row)
 below_from zero rows row has = absurd (let e = has.1 in cc)
-below_from (suc k) rows row has = elim (Has-either (rows_below k rows) (map (λ (rest : List (Option ℕ)). Some k ∷ rest) rows) row has) [
+below_from (suc k) rows row has = elim (Has-append (rows_below k rows) (map (λ (rest : List (Option ℕ)). Some k ∷ rest) rows) row has) [
   | inl early ↦ let r = below_from k rows row early in let h = r.1 in (r.0, omega arith, r.2, r.3, r.4)
   | inr last ↦ let r = Has-map (λ (rest : List (Option ℕ)). Some k ∷ rest) rows row last in (k, omega arith, r.0, r.1, r.2)
 ]
@@ -146,7 +135,7 @@ Rising (x ∷ xs) = ((y : List (Option ℕ)) → Has xs y → Precedes x y) × R
 rising_append : (xs ys : List (List (Option ℕ))) → Rising xs → Rising ys → ((x y : List (Option ℕ)) → Has xs x → Has ys y → Precedes x y) → Rising (xs ++ ys)
 rising_append [] ys up up' between = up'
 rising_append (x ∷ xs) ys up up' between = (
-  λ y has. elim (Has-either xs ys y has) [ inl early ↦ up.0 y early | inr late ↦ between x y (0, refl) late ],
+  λ y has. elim (Has-append xs ys y has) [ inl early ↦ up.0 y early | inr late ↦ between x y (0, refl) late ],
   rising_append xs ys up.1 up' (λ z y has. between z y (suc has.0, has.1)),
 )
 

@@ -1,4 +1,5 @@
 -- A row that a rule yields from rows that are held is held, or it is one that the rule gives.
+use Rattle.kasa_pre.proofs.ActsLemmas.{ImpliesAt-place}
 use Rattle.std.proofs.Common.{◌≡◌, ◌≢◌, ℕ, zero, suc, ◌+◌, ◌<◌, ◌≤◌, ◌⊎◌, inl, inr, Bool, true, false, List, [], ◌∷◌, ◌++◌, length, map, refl, sym, ap, ◌∙◌, arith}
 use Rattle.std.specs.Prelude.{⊤, Option, Some, None, MatchOption, slice_get, option_map}
 use Rattle.std.proofs.lemmas.Option.{slice_get-map, slice_get_within}
@@ -59,13 +60,6 @@ outside_none : (v : List Node) (n : ℕ) → outside_types v (Left n ∷ []) ≡
 outside_none [] n = refl
 outside_none (x ∷ []) n = refl
 outside_none (x ∷ y ∷ v) n = refl
-
-ImpliesAt-place : (g : List Node) (p q : ℕ → Option ℕ) → ((n k : ℕ) → p n ≡ Some k → q n ≡ Some k) → (a b : LinkTest) → ImpliesAt g p a b → ImpliesAt g q a b
-ImpliesAt-place g p q same a link.Any h = h
-ImpliesAt-place g p q same a link.Free h = h
-ImpliesAt-place g p q same a link.Bound h = h
-ImpliesAt-place g p q same a (link.Partner b y) h = h
-ImpliesAt-place g p q same a (link.To n t) h = (h.0, same n h.0 h.1, h.2)
 
 only_one : (k i j x : ℕ) → slice_get (k ∷ []) i ≡ Some x → slice_get (k ∷ []) j ≡ Some x → i ≡ j
 only_one k zero zero x e f = refl

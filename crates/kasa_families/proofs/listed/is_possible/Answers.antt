@@ -1,4 +1,4 @@
-use Rattle.kasa_families.proofs.ListedLemmas.{is_there}
+use Rattle.kasa_families.proofs.FirstLemmas.{is_there}
 use Rattle.kasa_families.proofs.listed.is_possible.Goals as goal
 
 pub returns : goal.returns

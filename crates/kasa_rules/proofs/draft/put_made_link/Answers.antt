@@ -1,7 +1,7 @@
 use Rattle.kasa_graph.specs.Lists.{update}
 use Rattle.kasa_rules.specs.declared.rule.MadeSite.{MadeSite}
 use Rattle.kasa_rules.specs.declared.rule.MadeAgent.{MadeAgent}
-use Rattle.kasa_rules.proofs.ListUpdates.{slice_set-read, then_bound}
+use Rattle.kasa_graph.proofs.ListUpdates.{slice_set-read, then_bound}
 use Rattle.kasa_rules.proofs.draft.put_made_link.Goals as goal
 
 pub returns : goal.returns

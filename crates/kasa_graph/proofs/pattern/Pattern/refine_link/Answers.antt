@@ -9,13 +9,13 @@ use Rattle.kasa_graph.proofs.pattern.Pattern.refine_link.Goals as goal
 pub returns-then-link_implies-clause-found : goal.returns-then-link_implies-clause-found
 returns-then-link_implies-clause-found c =
     let at : site_at c.args.self.now c.args.node c.args.site ≡ Some c.tests_at-old.result = search rules in
-    let ok : IsPattern c.args.self.now = rw c.self.view_is at c.self.invariant in
+    let ok : IsPattern c.args.self.now = (rw c.self.view_is at c.self.invariant).0 in
     IsMeet-same _ ok c.args.node c.args.site (Link c.args.test) (rw (link_test-at _ _ _ _ at) (c.link_implies.ensures.0 c.if-link_implies.true))
 
 pub returns-then-not-link_implies-clause-none : goal.returns-then-not-link_implies-clause-none
 returns-then-not-link_implies-clause-none c =
     let at : site_at c.args.self.now c.args.node c.args.site ≡ Some c.tests_at-old.result = search rules in
-    let ok : IsPattern c.args.self.now = rw c.self.view_is at c.self.invariant in
+    let ok : IsPattern c.args.self.now = (rw c.self.view_is at c.self.invariant).0 in
     HasNoMeet-link _ ok c.args.node c.args.site c.args.test
     (λ p. let yes = c.link_implies.ensures.1 (rw (link_test-at _ _ _ _ at) at p) in let no = c.if-link_implies.false in cc)
     (λ p. let yes = c.link_implies-2.ensures.1 (rw (link_test-at _ _ _ _ at) at p) in let no = c.if-not-link_implies.true in cc)
@@ -43,7 +43,7 @@ set_link-requires-clause-new c = no_bond_from c.args.test c.in_default.not-To
 pub returns-in_default-clause-found : goal.returns-in_default-clause-found
 returns-in_default-clause-found c =
     let at : site_at c.args.self.now c.args.node c.args.site ≡ Some c.tests_at-old.result = search rules in
-    let ok : IsPattern c.args.self.now = rw c.self.view_is at c.self.invariant in
+    let ok : IsPattern c.args.self.now = (rw c.self.view_is at c.self.invariant).0 in
     let stronger : LinkImplies c.args.self.now c.args.test (link_test c.args.self.now c.args.node c.args.site) =
     rw (link_test-at _ _ _ _ at) (c.link_implies-2.ensures.0 c.if-not-link_implies.false) in
     let open_before : IsNoBond (link_test c.args.self.now c.args.node c.args.site) =

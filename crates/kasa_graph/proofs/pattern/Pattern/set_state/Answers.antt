@@ -1,9 +1,14 @@
 use Rattle.std.proofs.Common.{arith}
 use Rattle.std.proofs.lemmas.Grind.{common_steps}
 use Rattle.kasa_graph.specs.Pattern.{with_state}
-use Rattle.kasa_graph.proofs.PatternLemmas.{IsPattern-of, IsPattern-same_links, link_test-with_state}
+use Rattle.kasa_graph.proofs.PatternLemmas.{IsPattern-same_links, link_test-with_state}
+use Rattle.kasa_graph.proofs.TestLemmas.{types_of-with_state}
+use Rattle.kasa_graph.proofs.KeptLemmas.{kept-of}
 use Rattle.kasa_graph.proofs.pattern.Pattern.set_state.Goals as goal
 
 pub invariant_of-self : goal.invariant_of-self
-invariant_of-self c = IsPattern-of (with_state c.args.self.now c.args.node c.args.site c.args.test) _ (grind (arith, common_steps))
-    (IsPattern-same_links _ _ (link_test-with_state _ _ _ _) (rw c.self.view_is at c.self.invariant))
+invariant_of-self c =
+    let old = rw c.self.view_is at c.self.invariant in
+    kept-of c.args.self.now _ (with_state c.args.self.now c.args.node c.args.site c.args.test) (grind (arith, common_steps))
+    (IsPattern-same_links _ _ (link_test-with_state _ _ _ _) old.0)
+    (types_of-with_state _ _ _ _) old.1

@@ -1,7 +1,7 @@
 use Rattle.std.proofs.Common.{◌≡◌, ◌<◌, ℕ, zero, suc, List, [], ◌∷◌, length, arith}
 use Rattle.std.specs.Prelude.{Some, slice_get}
 use Rattle.kasa_graph.specs.Signature.{TypeEntry}
-use Rattle.kasa_rules.proofs.OverLemmas.{IsPatternOver-blank}
+use Rattle.kasa_graph.proofs.OverLemmas.{IsPatternOver-blank}
 use Rattle.kasa_rules.proofs.draft.tests.hub_and_cart.Goals as goal
 
 both_known : (sig : List TypeEntry) → length sig ≡ 2 → (n a : ℕ) → slice_get (0 ∷ 1 ∷ []) n ≡ Some a → a < length sig

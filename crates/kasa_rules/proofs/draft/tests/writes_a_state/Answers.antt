@@ -4,7 +4,8 @@ use Rattle.kasa_graph.specs.Signature.{HasSite, state_names}
 use Rattle.kasa_graph.specs.Pattern.{agent_at, blank_node, HasNodeSite}
 use Rattle.kasa_graph.proofs.NameLemmas.{HasState-within}
 use Rattle.kasa_rules.specs.Draft.{new_draft}
-use Rattle.kasa_rules.proofs.ReadyLemmas.{HasEndState-left, left-state}
+use Rattle.kasa_rules.proofs.ReadyLemmas.{HasEndState-left}
+use Rattle.kasa_rules.proofs.DraftLemmas.{left-state}
 use Rattle.kasa_rules.proofs.draft.tests.writes_a_state.Goals as goal
 
 pub write_state-requires-clause-known : goal.write_state-requires-clause-known

@@ -1,14 +1,9 @@
 -- What an update of a list keeps, and updates of the lists inside a list.
-use Rattle.std.proofs.Common.{◌≡◌, ◌≢◌, ℕ, zero, suc, ◌<◌, ◌⊎◌, inl, inr, List, [], ◌∷◌, ◌++◌, length, map, take, refl, ap, sym, ◌∙◌, arith}
+use Rattle.std.proofs.Common.{◌≡◌, ◌≢◌, ℕ, zero, suc, ◌<◌, List, [], ◌∷◌, length, map, refl, ap, sym, ◌∙◌, arith}
 use Rattle.std.specs.Prelude.{Option, Some, None, IsSome, slice_get, slice_index_or, slice_set, option_map, option_and_then}
 use Rattle.std.proofs.lemmas.Option.{slice_get-get_or}
 use Rattle.kasa_graph.specs.Lists.{update}
-use Rattle.kasa_graph.proofs.ListLemmas.{slice_get-update_same, slice_get-update_other, slice_set-update}
-
-pub length-update : {A : Type 0} (xs : List A) (n : ℕ) (g : A → A) → length (update xs n g) ≡ length xs
-length-update [] n g = refl
-length-update (x ∷ xs) zero g = refl
-length-update (x ∷ xs) (suc n) g = ap suc (length-update xs n g)
+use Rattle.kasa_graph.proofs.ListLemmas.{slice_get-update_same, slice_get-update_other, slice_set-update, length-update}
 
 -- what the update leaves of each element
 module _ {A Y : Type 0} (g : A → A) (h : A → Y) (same : (a : A) → h (g a) ≡ h a) where
@@ -84,11 +79,6 @@ some_beside (x ∷ xs) [] s e h = absurd (omega arith)
 some_beside (x ∷ xs) (y ∷ ys) zero e h = refl
 some_beside (x ∷ xs) (y ∷ ys) (suc s) e h = some_beside xs ys s (omega arith) h
 
-pub take-next : {X : Type 0} (xs : List X) (n : ℕ) (x : X) → slice_get xs n ≡ Some x → take (suc n) xs ≡ take n xs ++ x ∷ []
-take-next [] n x e = absurd cc
-take-next (y ∷ ys) zero x e = let same : y ≡ x = cc in rw same refl
-take-next (y ∷ ys) (suc n) x e = ap (λ zs. y ∷ zs) (take-next ys n x e)
-
 -- writing at an index is an update
 pub slice_set-read : {X : Type 0} (xs : List X) (i : ℕ) (d : X) (f : X → X) → i < length xs → slice_set xs i (f (slice_index_or xs i d)) ≡ update xs i f
 slice_set-read xs i d f within = slice_set-update xs i _ _ f (slice_get-get_or xs i d within) refl
@@ -106,15 +96,3 @@ pub some_same : {X Y : Type 0} (h : X → Y) (o p : Option X) → option_map h o
 some_same h None None e some = some
 some_same h None (Some y) e some = absurd cc
 some_same h (Some x) p e some = refl
-
--- an element of a longer list was there before, or is the new one
-pub pushed_or : {X : Type 0} (xs : List X) (x y : X) (k : ℕ) → slice_get (xs ++ x ∷ []) k ≡ Some y → (slice_get xs k ≡ Some y) ⊎ (y ≡ x)
-pushed_or [] x y zero e = inr cc
-pushed_or [] x y (suc k) e = absurd cc
-pushed_or (z ∷ xs) x y zero e = inl e
-pushed_or (z ∷ xs) x y (suc k) e = pushed_or xs x y k e
-
-pub slice_get-pushed : {X : Type 0} (xs : List X) (x y : X) (k : ℕ) → slice_get xs k ≡ Some y → slice_get (xs ++ x ∷ []) k ≡ Some y
-slice_get-pushed [] x y k e = absurd cc
-slice_get-pushed (z ∷ xs) x y zero e = e
-slice_get-pushed (z ∷ xs) x y (suc k) e = slice_get-pushed xs x y k e
