@@ -28,7 +28,7 @@ use Rattle.kasa_pre.specs.declared.FreedBy.{FreedBy}
 use Rattle.kasa_pre.specs.Place.{ImpliesAt, IsPlace}
 use Rattle.kasa_pre.specs.Before.{place_from, place_of, outside_types}
 use Rattle.kasa_pre.specs.Yields.{Yields, LeavesOpen, ActsOn}
-use Rattle.kasa_pre.proofs.ShapeLemmas.{IsShaped, agent_at-node, node_of_agent, node_of_site, site_or_any}
+use Rattle.kasa_graph.proofs.ShapeLemmas.{IsShaped, agent_at-node, node_of_agent, node_of_site, site_or_any}
 use Rattle.kasa_pre.proofs.RowLemmas.{nodes_of, length-row_pattern}
 use Rattle.kasa_graph.proofs.TestLemmas.{agent_at-types}
 use Rattle.kasa_pre.proofs.RowPlace.{row_types, types_of-row_pattern, through, IsPlace-through, places, length-places, places-at, places-from, places-different, IsPlace-root}
@@ -58,7 +58,7 @@ types_all_outside (node ∷ v) (Made n ∷ stands) all e = absurd (let f = all z
 types_all_outside (node ∷ v) (Outside ∷ stands) all e = ap (λ (ts : List ℕ). node.agent ∷ ts) (types_all_outside v stands (λ j. all (suc j)) (omega arith))
 
 -- what a rule touches is at a left node
-touched_within : (r : RuleParts) (n s : ℕ) → touched r n s ≡ true → n < length r.actions
+pub touched_within : (r : RuleParts) (n s : ℕ) → touched r n s ≡ true → n < length r.actions
 unfolding touched fate_at written_link action_at
 touched_within r n s e = by_action (slice_get r.actions n) refl
   where
@@ -97,7 +97,7 @@ place_within k (Made n ∷ stands) (suc i) p e = let h = place_within k stands i
 place_within k (Outside ∷ stands) (suc i) p e = let h = place_within (suc k) stands i p e in omega arith
 
 -- the same through another reading of places
-ImpliesAt-place : (g : List Node) (p q : ℕ → Option ℕ) → ((n k : ℕ) → p n ≡ Some k → q n ≡ Some k) → (a b : LinkTest) → ImpliesAt g p a b → ImpliesAt g q a b
+pub ImpliesAt-place : (g : List Node) (p q : ℕ → Option ℕ) → ((n k : ℕ) → p n ≡ Some k → q n ≡ Some k) → (a b : LinkTest) → ImpliesAt g p a b → ImpliesAt g q a b
 ImpliesAt-place g p q same a Any h = h
 ImpliesAt-place g p q same a Free h = h
 ImpliesAt-place g p q same a Bound h = h

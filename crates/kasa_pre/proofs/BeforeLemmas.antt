@@ -35,7 +35,8 @@ use Rattle.kasa_pre.specs.Place.{ImpliesAt}
 use Rattle.kasa_pre.specs.Before.{FitsStand, AreStands, place_of, outside_types, stand_of, link_written, WrittenMeets, IsFreed, AreFreed, StateBefore, LinkBefore, IsBefore}
 use Rattle.kasa_pre.specs.LiesOn.{LiesOn, AllLieOn, outside_cells, cells_before, AreJustFreed}
 use Rattle.kasa_rules.proofs.FiredLemmas.{type_within, partner_within, type_in-fire_old, state_in-fire_old, partner_in-fire_kept, type_in-fire_new, state_in-fire_new, partner_in-fire_made}
-use Rattle.kasa_pre.proofs.ShapeLemmas.{IsShaped, site_or_any, agent_at-node, site_of_node}
+use Rattle.kasa_graph.proofs.ShapeLemmas.{IsShaped, site_or_any, agent_at-node}
+use Rattle.kasa_pre.proofs.ShapeLemmas.{site_of_node}
 use Rattle.kasa_pre.proofs.PlaceLemmas.{place_from-left, place_from-outside, outside_cells-node, outside_types-cells, in_append, AllDifferent-outside}
 use Rattle.kasa_pre.proofs.Cut.{cut, cut_node, IsEmbedding-cut}
 use Rattle.kasa_pre.proofs.LeftLemmas.{type_of_end, typed_node, cut_node_type, types_of-cut, types-left, left_states-cut, left_links-cut}

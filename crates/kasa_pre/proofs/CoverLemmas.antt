@@ -28,7 +28,7 @@ use Rattle.kasa_pre.specs.Allowed.{IsAllowed}
 use Rattle.kasa_pre.specs.Closed.{Cover}
 use Rattle.kasa_pre.proofs.RootLemmas.{root_extends}
 use Rattle.kasa_pre.proofs.EmbeddingLemmas.{StatesAgree-met, LinksAgree-met, same_partner, cells_at, IsEmbedding-place}
-use Rattle.kasa_pre.proofs.ShapeLemmas.{agent_at-node, node_of_agent}
+use Rattle.kasa_graph.proofs.ShapeLemmas.{agent_at-node, node_of_agent}
 use Rattle.kasa_pre.proofs.LeftLemmas.{typed_node}
 use Rattle.kasa_graph.proofs.TestLemmas.{HasNodeSite-with_bond}
 use Rattle.kasa_families.proofs.RowTests.{AllDifferent-ascends, HasNodeSite-with_local}

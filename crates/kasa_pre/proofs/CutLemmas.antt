@@ -22,7 +22,8 @@ use Rattle.kasa_graph.proofs.ListLemmas.{some_then, some_at}
 use Rattle.kasa_rules.proofs.FiringLemmas.{node_on-at, node_on-found}
 use Rattle.kasa_pre.specs.Place.{ImpliesAt}
 use Rattle.kasa_rules.proofs.FiredLemmas.{agent_of_type, site_of_partner, type_of_partner, type_within}
-use Rattle.kasa_pre.proofs.ShapeLemmas.{site_or_any, node_of_site, count_of_site}
+use Rattle.kasa_graph.proofs.ShapeLemmas.{site_or_any, node_of_site}
+use Rattle.kasa_pre.proofs.ShapeLemmas.{count_of_site}
 use Rattle.kasa_pre.proofs.Cut.{cut, cut_state, cut_partner, cut_link, cut_site, cut_agent, cut_node, no_node, slice_get-cut, site_at-cut, cut_type, cut_states, cut_links, length-cut}
 
 module _ (m : List (Option Agent)) (cells : List ℕ) where

@@ -20,7 +20,8 @@ use Rattle.kasa_rules.specs.Firing.{fire, end_cell}
 use Rattle.kasa_graph.proofs.ListLemmas.{some_map, some_at}
 use Rattle.kasa_pre.specs.Place.{ImpliesAt}
 use Rattle.kasa_rules.proofs.FiredLemmas.{agent_of_type, type_within, type_in-fire_old, type_in-fire_new}
-use Rattle.kasa_pre.proofs.ShapeLemmas.{site_or_any, node_of_site, agent_at-node, site_of_node}
+use Rattle.kasa_graph.proofs.ShapeLemmas.{site_or_any, node_of_site, agent_at-node}
+use Rattle.kasa_pre.proofs.ShapeLemmas.{site_of_node}
 use Rattle.kasa_pre.proofs.PlaceLemmas.{same_elements}
 use Rattle.kasa_pre.proofs.Cut.{cut, cut_node, cut_agent, no_node}
 use Rattle.kasa_pre.proofs.CutLemmas.{StateImplies-cut, ImpliesAt-cut}

@@ -1,16 +1,13 @@
 -- What the pattern of a row tests, and that it has the sites of its types.
-use Rattle.std.proofs.Common.{length, ◌≡◌, ◌≢◌, ℕ, zero, suc, ◌<◌, List, [], ◌∷◌, refl, ap, ◌∙◌, map, arith}
+use Rattle.std.proofs.Common.{length, ◌≡◌, ◌≢◌, ℕ, ◌<◌, List, [], ◌∷◌, refl, ◌∙◌, map, arith}
 use Rattle.std.specs.Prelude.{Some, slice_get}
 use Rattle.std.proofs.lemmas.List.{length-map}
-use Rattle.kasa_graph.specs.declared.pattern.StateTest.{StateTest}
-use Rattle.kasa_graph.specs.declared.pattern.LinkTest.{LinkTest}
 use Rattle.kasa_graph.specs.declared.pattern.LinkTest.TheVariants.{To}
-use Rattle.kasa_graph.specs.declared.pattern.SiteTests.{SiteTests}
 use Rattle.kasa_graph.specs.declared.pattern.Node.{Node}
 use Rattle.kasa_graph.specs.Signature.{TypeEntry}
-use Rattle.kasa_graph.specs.Lists.{update, AllDifferent}
+use Rattle.kasa_graph.specs.Lists.{AllDifferent}
 use Rattle.kasa_graph.specs.Signature.{state_counts, HasSite}
-use Rattle.kasa_graph.specs.Pattern.{site_at, state_test, link_test, HasNodeSite, blank_site, blank_node, with_state, with_link, with_bond}
+use Rattle.kasa_graph.specs.Pattern.{site_at, state_test, link_test, HasNodeSite, blank_site, blank_node, with_state, with_bond}
 use Rattle.kasa_graph.proofs.ListLemmas.{some_at}
 use Rattle.kasa_graph.proofs.TestLemmas.{link_test-two_bonds_first, link_test-two_bonds_second}
 use Rattle.kasa_families.specs.declared.family.Family.{Family}
@@ -22,7 +19,7 @@ use Rattle.kasa_families.specs.Row.{IsRow}
 use Rattle.kasa_families.specs.Pattern.{local_state_test, local_link_test, with_local, with_locals, row_pattern}
 use Rattle.kasa_families.proofs.RowTests.{state_test-with_local_same, link_test-with_local_same, state_test-with_local_other, link_test-with_local_other, state_test-with_locals_at, link_test-with_locals_at}
 use Rattle.kasa_families.proofs.RowPattern.{length_of, types_of-view, types_of-across, types_of-same, types_of-different}
-use Rattle.kasa_pre.proofs.ShapeLemmas.{IsShaped}
+use Rattle.kasa_graph.proofs.ShapeLemmas.{IsShaped, IsShaped-with_state, IsShaped-with_link, IsShaped-with_bond, IsShaped-blank}
 
 -- ---- local states
 
@@ -70,32 +67,6 @@ both_bonds sig a x u b y w j rest has has' apart positive =
 
 -- ---- the sites of a row's pattern are those of its types
 
-abbrev HasShape : List TypeEntry → Node → Type 0
-HasShape sig node = map (λ x. x.states) node.sites ≡ state_counts sig node.agent
-
-IsShaped-update : (sig : List TypeEntry) (g : List Node) (n : ℕ) (f : Node → Node) → ((node : Node) → HasShape sig node → HasShape sig (f node)) → IsShaped sig g → IsShaped sig (update g n f)
-IsShaped-update sig [] n f keeps ok k node e = absurd cc
-IsShaped-update sig (x ∷ g) zero f keeps ok zero node e = let same : f x ≡ node = cc in rw (← same) (keeps x (ok zero x refl))
-IsShaped-update sig (x ∷ g) zero f keeps ok (suc k) node e = ok (suc k) node e
-IsShaped-update sig (x ∷ g) (suc n) f keeps ok zero node e = ok zero node e
-IsShaped-update sig (x ∷ g) (suc n) f keeps ok (suc k) node e = IsShaped-update sig g n f keeps (λ i. ok (suc i)) k node e
-
-states-update : (sites : List SiteTests) (s : ℕ) (f : SiteTests → SiteTests) → ((x : SiteTests) → (f x).states ≡ x.states) → map (λ (x : SiteTests). x.states) (update sites s f) ≡ map (λ (x : SiteTests). x.states) sites
-states-update [] s f keeps = refl
-states-update (x ∷ sites) zero f keeps = ap (λ (k : ℕ). k ∷ map (λ (x : SiteTests). x.states) sites) (keeps x)
-states-update (x ∷ sites) (suc s) f keeps = ap (λ (ks : List ℕ). x.states ∷ ks) (states-update sites s f keeps)
-
-pub IsShaped-with_state : (sig : List TypeEntry) (g : List Node) (n s : ℕ) (t : StateTest) → IsShaped sig g → IsShaped sig (with_state g n s t)
-unfolding with_state
-IsShaped-with_state sig g n s t ok = IsShaped-update sig g n _ (λ node shape. states-update node.sites s (λ x. record x { state = t }) (λ x. refl) ∙ shape) ok
-
-pub IsShaped-with_link : (sig : List TypeEntry) (g : List Node) (n s : ℕ) (t : LinkTest) → IsShaped sig g → IsShaped sig (with_link g n s t)
-unfolding with_link
-IsShaped-with_link sig g n s t ok = IsShaped-update sig g n _ (λ node shape. states-update node.sites s (λ x. record x { link = t }) (λ x. refl) ∙ shape) ok
-
-IsShaped-with_bond : (sig : List TypeEntry) (g : List Node) (n s m t : ℕ) → IsShaped sig g → IsShaped sig (with_bond g n s m t)
-IsShaped-with_bond sig g n s m t ok = IsShaped-with_link sig (with_link g n s (To m t)) m t (To n s) (IsShaped-with_link sig g n s (To m t) ok)
-
 IsShaped-with_local : (sig : List TypeEntry) (g : List Node) (n s : ℕ) (l : Local) → IsShaped sig g → IsShaped sig (with_local g n s l)
 IsShaped-with_local sig g n s l ok = IsShaped-with_link sig (with_state g n s (local_state_test l.state)) n s (local_link_test l.link) (IsShaped-with_state sig g n s (local_state_test l.state) ok)
 
@@ -104,23 +75,11 @@ IsShaped-with_locals sig g n [] locals ok = ok
 IsShaped-with_locals sig g n (s ∷ sites) [] ok = ok
 IsShaped-with_locals sig g n (s ∷ sites) (l ∷ locals) ok = IsShaped-with_locals sig (with_local g n s l) n sites locals (IsShaped-with_local sig g n s l ok)
 
-counts-blank : (counts : List ℕ) → map (λ (x : SiteTests). x.states) (map blank_site counts) ≡ counts
-counts-blank [] = refl
-counts-blank (k ∷ counts) = ap (λ (ks : List ℕ). k ∷ ks) (counts-blank counts)
-
-IsShaped-blank : (sig : List TypeEntry) (a : ℕ) (g : List Node) → IsShaped sig g → IsShaped sig (blank_node sig a ∷ g)
-unfolding blank_node
-IsShaped-blank sig a g ok zero node e = let same : record { agent = a; sites = map blank_site (state_counts sig a) } ≡ node = cc in rw (← same) (counts-blank (state_counts sig a))
-IsShaped-blank sig a g ok (suc k) node e = ok k node e
-
-IsShaped-[] : (sig : List TypeEntry) → IsShaped sig []
-IsShaped-[] sig k node e = absurd cc
-
 pub IsShaped-row_pattern : (sig : List TypeEntry) (family : Family) (row : Row) → IsRow sig family row → IsShaped sig (row_pattern sig family row)
-IsShaped-row_pattern sig (View a sites) (Locals locals) ok = IsShaped-with_locals sig _ 0 sites locals (IsShaped-blank sig a [] (IsShaped-[] sig))
-IsShaped-row_pattern sig (Across a x p b y q) (Locals (l ∷ k ∷ [])) ok = IsShaped-with_local sig _ 1 q k (IsShaped-with_local sig _ 0 p l (IsShaped-with_bond sig _ 0 x 1 y (IsShaped-blank sig a (blank_node sig b ∷ []) (IsShaped-blank sig b [] (IsShaped-[] sig)))))
-IsShaped-row_pattern sig (Parallel a x u b y w) Same ok = IsShaped-with_bond sig _ 0 u 1 w (IsShaped-with_bond sig _ 0 x 1 y (IsShaped-blank sig a (blank_node sig b ∷ []) (IsShaped-blank sig b [] (IsShaped-[] sig))))
-IsShaped-row_pattern sig (Parallel a x u b y w) Different ok = IsShaped-with_bond sig _ 0 u 2 w (IsShaped-with_bond sig _ 0 x 1 y (IsShaped-blank sig a (blank_node sig b ∷ blank_node sig b ∷ []) (IsShaped-blank sig b (blank_node sig b ∷ []) (IsShaped-blank sig b [] (IsShaped-[] sig)))))
+IsShaped-row_pattern sig (View a sites) (Locals locals) ok = IsShaped-with_locals sig _ 0 sites locals (IsShaped-blank sig (a ∷ []))
+IsShaped-row_pattern sig (Across a x p b y q) (Locals (l ∷ k ∷ [])) ok = IsShaped-with_local sig _ 1 q k (IsShaped-with_local sig _ 0 p l (IsShaped-with_bond sig _ 0 x 1 y (IsShaped-blank sig (a ∷ b ∷ []))))
+IsShaped-row_pattern sig (Parallel a x u b y w) Same ok = IsShaped-with_bond sig _ 0 u 1 w (IsShaped-with_bond sig _ 0 x 1 y (IsShaped-blank sig (a ∷ b ∷ [])))
+IsShaped-row_pattern sig (Parallel a x u b y w) Different ok = IsShaped-with_bond sig _ 0 u 2 w (IsShaped-with_bond sig _ 0 x 1 y (IsShaped-blank sig (a ∷ b ∷ b ∷ [])))
 IsShaped-row_pattern sig family row ok = absurd ok
 
 -- ---- how many nodes a row's pattern has

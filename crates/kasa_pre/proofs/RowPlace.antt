@@ -122,19 +122,17 @@ places-different k n i j x e f = let p = (places-from k n i x e).0 in let q = (p
 
 -- ---- the root's place in a row's pattern: its first nodes
 
-root_types : Family → List ℕ
+abbrev pub root_types : Family → List ℕ
 root_types (View a sites) = a ∷ []
 root_types (Across a x p b y q) = a ∷ b ∷ []
 root_types (Parallel a x u b y w) = a ∷ []
 
-types_of-root : (sig : List TypeEntry) (family : Family) → types_of (root sig family) ≡ root_types family
-unfolding root_types
+pub types_of-root : (sig : List TypeEntry) (family : Family) → types_of (root sig family) ≡ root_types family
 types_of-root sig (View a sites) = types_of-blank sig (a ∷ [])
 types_of-root sig (Across a x p b y q) = types_of-across_root sig a x p b y q
 types_of-root sig (Parallel a x u b y w) = types_of-parallel_root sig a x u b y w
 
 first_types : (family : Family) (row : Row) (n a : ℕ) → slice_get (root_types family) n ≡ Some a → slice_get (row_types family row) n ≡ Some a
-unfolding root_types
 first_types (View b sites) row n a e = e
 first_types (Across b x p c y q) row n a e = e
 first_types (Parallel b x u c y w) (Locals locals) zero a e = e
@@ -142,7 +140,7 @@ first_types (Parallel b x u c y w) Same zero a e = e
 first_types (Parallel b x u c y w) Different zero a e = e
 first_types (Parallel b x u c y w) row (suc n) a e = absurd cc
 
-state_test-root : (sig : List TypeEntry) (family : Family) (n s : ℕ) → state_test (root sig family) n s ≡ state.Any
+pub state_test-root : (sig : List TypeEntry) (family : Family) (n s : ℕ) → state_test (root sig family) n s ≡ state.Any
 state_test-root sig (View a sites) n s = state_test-blank sig (a ∷ []) n s
 state_test-root sig (Across a x p b y q) n s =
     state_test-with_link (with_link (blank_node sig a ∷ blank_node sig b ∷ []) 0 x (To 1 y)) 1 y (To 0 x) n s

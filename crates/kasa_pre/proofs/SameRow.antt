@@ -30,7 +30,7 @@ use Rattle.kasa_pre.proofs.RowPlace.{through, places}
 
 -- ---- one local state at a site
 
-same_state : (count : Option ℕ) (a : StateTest) (x y : Option ℕ) → IsLocalState count x → IsLocalState count y → StateImplies a (local_state_test x) → StatesAgree a (local_state_test y) → x ≡ y
+pub same_state : (count : Option ℕ) (a : StateTest) (x y : Option ℕ) → IsLocalState count x → IsLocalState count y → StateImplies a (local_state_test x) → StatesAgree a (local_state_test y) → x ≡ y
 same_state None a x y p q implied agree = absurd p
 same_state (Some zero) a x y p q implied agree = p ∙ sym q
 same_state (Some (suc k)) a None y p q implied agree = absurd (let e = p.1 in cc)
@@ -38,7 +38,7 @@ same_state (Some (suc k)) a (Some u) None p q implied agree = absurd (let e = q.
 same_state (Some (suc k)) state.Any (Some u) (Some w) p q implied agree = absurd implied
 same_state (Some (suc k)) (state.Is v) (Some u) (Some w) p q implied agree = ap Some (sym implied ∙ agree)
 
-same_link : (g : List Node) (place : ℕ → Option ℕ) (a : LinkTest) (x y : LocalLink) → ImpliesAt g place a (local_link_test x) → LinksAgree g a (local_link_test y) → x ≡ y
+pub same_link : (g : List Node) (place : ℕ → Option ℕ) (a : LinkTest) (x y : LocalLink) → ImpliesAt g place a (local_link_test x) → LinksAgree g a (local_link_test y) → x ≡ y
 same_link g place a local.Free local.Free p q = refl
 same_link g place Free local.Free (local.Partner c z) p q = absurd q
 same_link g place a local.Free (local.Partner c z) p q = absurd p

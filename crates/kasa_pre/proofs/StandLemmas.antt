@@ -19,7 +19,7 @@ use Rattle.kasa_pre.specs.declared.Stand.{Stand}
 use Rattle.kasa_pre.specs.declared.Stand.TheVariants.{Left, Made, Outside}
 use Rattle.kasa_pre.specs.declared.FreedBy.{FreedBy}
 use Rattle.kasa_pre.specs.LiesOn.{LiesOn, AllLieOn, WasFreed, AreJustFreed}
-use Rattle.kasa_pre.proofs.ShapeLemmas.{site_or_any, node_of_site}
+use Rattle.kasa_graph.proofs.ShapeLemmas.{site_or_any, node_of_site}
 use Rattle.kasa_pre.proofs.PlaceLemmas.{in_append}
 use Rattle.kasa_pre.proofs.BeforeLemmas.{left_touched}
 

@@ -26,7 +26,7 @@ use Rattle.kasa_pre.specs.declared.Stand.{Stand}
 use Rattle.kasa_pre.specs.declared.FreedBy.{FreedBy}
 use Rattle.kasa_pre.proofs.RootLemmas.{root_extends}
 use Rattle.kasa_pre.proofs.EmbeddingLemmas.{IsEmbedding-general}
-use Rattle.kasa_pre.proofs.ShapeLemmas.{IsShaped}
+use Rattle.kasa_graph.proofs.ShapeLemmas.{IsShaped}
 use Rattle.kasa_pre.proofs.RowLemmas.{IsShaped-row_pattern}
 use Rattle.kasa_pre.proofs.StoodBefore.{StoodBefore-some}
 use Rattle.kasa_families.proofs.TableLemmas.{IsFamily-of_tables}

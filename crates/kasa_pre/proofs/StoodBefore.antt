@@ -10,7 +10,8 @@ use Rattle.kasa_graph.specs.Pattern.{site_at, HasNodeSite}
 use Rattle.kasa_graph.proofs.ListLemmas.{some_at}
 use Rattle.kasa_rules.proofs.FiredLemmas.{site_of_partner}
 use Rattle.kasa_pre.proofs.LeftLemmas.{typed_node}
-use Rattle.kasa_pre.proofs.ShapeLemmas.{node_of_agent, count_of_site}
+use Rattle.kasa_graph.proofs.ShapeLemmas.{node_of_agent}
+use Rattle.kasa_pre.proofs.ShapeLemmas.{count_of_site}
 use Rattle.kasa_pre.specs.LiesOn.{WasFreed}
 use Rattle.kasa_graph.specs.declared.mixture.Agent.{Agent}
 use Rattle.kasa_graph.specs.Signature.{TypeEntry}
@@ -22,7 +23,7 @@ use Rattle.kasa_pre.specs.declared.Stand.{Stand}
 use Rattle.kasa_pre.specs.declared.FreedBy.{FreedBy}
 use Rattle.kasa_pre.specs.LiesOn.{AllLieOn, cells_before, AreJustFreed, StoodBefore}
 use Rattle.kasa_pre.proofs.Cut.{cut}
-use Rattle.kasa_pre.proofs.ShapeLemmas.{IsShaped}
+use Rattle.kasa_graph.proofs.ShapeLemmas.{IsShaped}
 use Rattle.kasa_pre.proofs.BeforeLemmas.{AreFreed-just, IsBefore-cut, IsEmbedding-before}
 use Rattle.kasa_pre.proofs.StandLemmas.{stands_exist, freed_exist}
 

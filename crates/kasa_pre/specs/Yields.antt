@@ -15,7 +15,7 @@ use Rattle.kasa_rules.specs.Rule.{RuleParts, made_type, touched}
 use Rattle.kasa_pre.specs.declared.Stand.{Stand}
 use Rattle.kasa_pre.specs.declared.FreedBy.{FreedBy}
 use Rattle.kasa_pre.specs.Allowed.{IsAllowed}
-use Rattle.kasa_pre.specs.Before.{AreFreed, IsBefore}
+use Rattle.kasa_pre.specs.Before.{AreFreed, IsBefore, IsMostGeneralBefore}
 
 -- some pattern that the tables allow can have stood before the rule fired, where v stands afterwards
 pub record YieldsPattern (sig : List TypeEntry) (tables : List Table) (r : RuleParts) (v : List Node) : Type 0 where
@@ -24,6 +24,15 @@ pub record YieldsPattern (sig : List TypeEntry) (tables : List Table) (r : RuleP
   pub pattern : List Node
   pub free : AreFreed r v stands freed
   pub before : IsBefore sig r v stands freed pattern
+  pub allowed : IsAllowed sig tables pattern
+
+-- for some stands and some list of freed tests there is a most general such pattern, and the tables allow it
+pub record YieldsMostGeneral (sig : List TypeEntry) (tables : List Table) (r : RuleParts) (v : List Node) : Type 0 where
+  pub stands : List Stand
+  pub freed : List FreedBy
+  pub pattern : List Node
+  pub free : AreFreed r v stands freed
+  pub most_general : IsMostGeneralBefore sig r v stands freed pattern
   pub allowed : IsAllowed sig tables pattern
 
 -- the rule yields the row of the family

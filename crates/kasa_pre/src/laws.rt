@@ -1,6 +1,6 @@
 //! Laws of what stood before, of what tables allow and of closed tables.
 
-ghost use Rattle.std.specs.Prelude.{ℕ, List, Option, length};
+ghost use Rattle.std.specs.Prelude.{◌↔◌, ℕ, List, Option, length};
 ghost use Rattle.kasa_graph.specs.declared.mixture.Agent.{Agent};
 ghost use Rattle.kasa_graph.specs.declared.pattern.Node.{Node};
 ghost use Rattle.kasa_graph.specs.Signature.{TypeEntry};
@@ -14,19 +14,26 @@ ghost use Rattle.kasa_rules.specs.declared.model.Model.{Model};
 ghost use Rattle.kasa_rules.specs.Reached.{Reached, IsModel};
 ghost use Rattle.kasa_families.specs.declared.family.Family.{Family};
 ghost use Rattle.kasa_families.specs.declared.row.Row.{Row};
+ghost use Rattle.kasa_families.specs.Family.{IsFamily};
 ghost use Rattle.kasa_families.specs.Row.{IsRow};
-ghost use Rattle.kasa_families.specs.Pattern.{Occurs};
+ghost use Rattle.kasa_families.specs.Pattern.{Occurs, row_pattern};
 ghost use Rattle.kasa_families.specs.Table.{Table, AreTables, Holds, families_of};
 ghost use Rattle.kasa_pre.specs.declared.Stand.{Stand};
 ghost use Rattle.kasa_pre.specs.declared.FreedBy.{FreedBy};
 ghost use Rattle.kasa_pre.specs.Allowed.{IsAllowed, IsDead};
-ghost use Rattle.kasa_pre.specs.Yields.{ActsOn, Yields};
+ghost use Rattle.kasa_pre.specs.Yields.{ActsOn, Yields, YieldsMostGeneral};
 ghost use Rattle.kasa_pre.specs.Closed.{Cover, IsClosed, LemmaHolds};
 ghost use Rattle.kasa_pre.specs.LiesOn.{AllLieOn, AreJustFreed, StoodBefore};
 
 /// What is more general than an allowed pattern on the same nodes is allowed.
 pub fn more_general_is_allowed()
     ensures { (sig : List TypeEntry) (tables : List Table) (g h : List Node) → Implies h g → IsAllowed sig tables h → IsAllowed sig tables g }
+{}
+
+/// A rule yields a row from tables exactly where, for some stands and some list of freed tests, a most general pattern
+/// can have stood before, and the tables allow it.
+pub fn most_general_patterns_decide()
+    ensures { (sig : List TypeEntry) (tables : List Table) (r : RuleParts) (family : Family) (row : Row) → IsRuleOver sig r → IsFamily sig family → IsRow sig family row → Yields sig tables r family row ↔ YieldsMostGeneral sig tables r (row_pattern sig family row) }
 {}
 
 /// What stands after a firing had a pattern before it, for the stands on which it lies and the tests that the side effect freed.

@@ -1,0 +1,33 @@
+-- Places of a family's root that begin with a given node.
+use Rattle.std.specs.Prelude.{◌≡◌, ℕ, List, Option, Some, None, slice_get}
+use Rattle.kasa_graph.specs.declared.pattern.Node.{Node}
+use Rattle.kasa_graph.specs.Signature.{TypeEntry}
+use Rattle.kasa_graph.specs.Lists.{Has}
+use Rattle.kasa_families.specs.declared.family.Family.{Family}
+use Rattle.kasa_families.specs.declared.compatible.Spot.{Spot}
+use Rattle.kasa_families.specs.Family.{root}
+use Rattle.kasa_families.specs.Spot.{place_of}
+use Rattle.kasa_families.specs.Table.{Table, families_of}
+use Rattle.kasa_pre.specs.Place.{IsPlace}
+use Rattle.kasa_pre.specs.Allowed.{HasCompatible}
+
+-- the family's root stands at a place of g whose first node is n
+pub record StandsFrom (sig : List TypeEntry) (family : Family) (g : List Node) (n : ℕ) (place : List ℕ) : Type 0 where
+  pub stands : IsPlace (root sig family) g place
+  pub first : slice_get place 0 ≡ Some n
+
+-- the spot is the only such place, none where there is none
+abbrev pub IsOnlySpot : List TypeEntry → Family → List Node → ℕ → Option Spot → Type 0
+IsOnlySpot sig family g n None = (place : List ℕ) → ¬ StandsFrom sig family g n place
+IsOnlySpot sig family g n (Some spot) = StandsFrom sig family g n (place_of spot) × ((place : List ℕ) → StandsFrom sig family g n place → place ≡ place_of spot)
+
+-- at each such place some row of the family is compatible
+abbrev pub IsAllowedFrom : List TypeEntry → List Table → List Node → ℕ → Family → Type 0
+IsAllowedFrom sig tables g n family = (place : List ℕ) → StandsFrom sig family g n place → HasCompatible tables g family place
+
+-- the same for the family of a number, and for all families
+abbrev pub IsNumberAllowedFrom : List TypeEntry → List Table → List Node → ℕ → ℕ → Type 0
+IsNumberAllowedFrom sig tables g n f = (family : Family) → slice_get (families_of tables) f ≡ Some family → IsAllowedFrom sig tables g n family
+
+abbrev pub AreAllowedFrom : List TypeEntry → List Table → List Node → ℕ → Type 0
+AreAllowedFrom sig tables g n = (family : Family) → Has (families_of tables) family → IsAllowedFrom sig tables g n family
