@@ -1,0 +1,129 @@
+// From a text and its tokens to its declarations.
+ghost use Rattle.std.specs.Prelude.{◌≡◌, ◌≢◌, ◌≤◌, ◌++◌, ◌∷◌, List, [], None, Ok, Err, OnOk, IfOk, IfErr, length};
+ghost use Rattle.kasa_lexer.specs.Tokens.{IsOutcome as IsLexed};
+ghost use Rattle.kasa_syntax.specs.declared.decls.Decl.{Decl as SpecDecl};
+ghost use Rattle.kasa_parser.specs.Words.{Word as SpecWord, words_of};
+ghost use Rattle.kasa_parser.specs.Declarations.{Declaration};
+ghost use Rattle.kasa_parser.specs.Parses.{IsOutcome};
+ghost use Rattle.kasa_parser.specs.Reader.{is_item_wanted, is_label_wanted, fault_at, fault_of, read_all};
+ghost use Rattle.kasa_parser.specs.Reading.{AreWithin, IsFirstWithin, first};
+ghost use Rattle.kasa_parser.specs.Split.{declaration_of, given_of, AllWithin, read_behind, given_list};
+ghost use Rattle.kasa_parser.specs.declared.ParseFault.TheVariants.{NoMemory as no_memory};
+
+use crate::ParseFault;
+use crate::reader::{Reader, Stop};
+use crate::split::{Declared, split_tokens};
+use crate::wanted::Wanted;
+use crate::word::Word;
+use kasa_num::Place;
+use kasa_syntax::{Decl, Token, place_of};
+use std::alloc::Global;
+
+fn is_item(want: Wanted) -> bool
+    ensures { result ≡ is_item_wanted want }
+{
+    matches!(want, Wanted::Item)
+}
+
+fn is_label(want: Wanted) -> bool
+    ensures { result ≡ is_label_wanted want }
+{
+    matches!(want, Wanted::Label)
+}
+
+// The fault at a word that can't stand in a declaration with this first word.
+fn fault_at(begin: &Word, want: Wanted, word: &Word, place: Place) -> ParseFault
+    ensures { (more : List SpecWord) → result ≡ fault_at (begin.now ∷ more) want word.now place }
+{
+    if word.is_keyword(b"%token") {
+        return ParseFault::Tokens(place);
+    }
+    if begin.is_keyword(b"%mod") && word.is_intervention() {
+        return ParseFault::Intervention(place);
+    }
+    if is_item(want) && word.is_symbol(b'|') && !begin.is_percent() {
+        return ParseFault::Tokens(place);
+    }
+    if is_label(want) && word.is_digits() {
+        return ParseFault::LongLabel(place);
+    }
+    ParseFault::Unexpected(place)
+}
+
+// The fault of a declaration of which these words are left.
+fn fault_of(text: &[u8], one: &Declared, want: Wanted, left: &Reader) -> ParseFault
+    requires few { length text.now ≤ 4194304 }
+    requires tokens { AreWithin (length text.now) one.now.tokens.items }
+    requires ending { one.now.ending ≤ length text.now }
+    requires left { IsFirstWithin (length text.now) left.now }
+    requires some { (first (words_of text.now one.now.tokens.items) ≡ None) → left.now ≡ [] }
+    ensures { result ≡ fault_of text.now (declaration_of text.now one.now) want left.now }
+{
+    let begin = Reader::new(text, one.tokens.as_slice()).peek();
+    let Some(begin) = begin else {
+        return ParseFault::Unexpected(place_of(text, one.ending));
+    };
+    let Some(word) = left.peek() else {
+        return ParseFault::Unexpected(place_of(text, one.ending));
+    };
+    let place = place_of(text, word.span.start);
+    fault_at(&begin, want, &word, place)
+}
+
+// What a declaration gives.
+fn read_one(alloc: Global, text: &[u8], one: &Declared) -> Result<Option<Decl>, ParseFault>
+    requires few { length text.now ≤ 4194304 }
+    requires tokens { AreWithin (length text.now) one.now.tokens.items }
+    requires ending { one.now.ending ≤ length text.now }
+    ensures ok { IfOk result (λ given. (done : List SpecDecl) (more : List Declaration) → read_behind text.now done (declaration_of text.now one.now ∷ more) ≡ read_behind text.now (done ++ given_list given) more) }
+    ensures err { IfErr result (λ fault. fault ≢ no_memory → (done : List SpecDecl) (more : List Declaration) → read_behind text.now done (declaration_of text.now one.now ∷ more) ≡ Err fault) }
+{
+    let mut reader = Reader::new(text, one.tokens.as_slice());
+    match reader.declaration(alloc) {
+        Ok(given) => Ok(given),
+        Err(Stop::NoMemory) => Err(ParseFault::NoMemory),
+        Err(Stop::Stuck(want)) => Err(fault_of(text, one, want, &reader)),
+    }
+}
+
+fn push_given(decls: &mut Vec<Decl>, given: Option<Decl>) -> Result<(), ParseFault>
+    ensures ok { OnOk result (decls.new.items ≡ decls.old.items ++ given_list given) }
+    ensures err { IfErr result (λ fault. fault ≡ no_memory) }
+{
+    match given {
+        None => Ok(()),
+        Some(decl) => decls.push(decl).map_err(|_| ParseFault::NoMemory),
+    }
+}
+
+// What declarations give, or the first fault.
+fn read_each(alloc: Global, text: &[u8], declared: &[Declared]) -> Result<Vec<Decl>, ParseFault>
+    requires few { length text.now ≤ 4194304 }
+    requires within { AllWithin (length text.now) declared.now }
+    ensures ok { IfOk result (λ decls. read_all text.now (given_of text.now declared.now) ≡ Ok decls.items) }
+    ensures err { IfErr result (λ fault. fault ≢ no_memory → read_all text.now (given_of text.now declared.now) ≡ Err fault) }
+{
+    let mut decls = Vec::new(alloc);
+    for one in declared {
+        let given = read_one(alloc, text, one)?;
+        push_given(&mut decls, given)?;
+    }
+    Ok(decls)
+}
+
+/// The declarations that the tokens of a text of at most 4,194,304 bytes give, in text order, or
+/// the first fault, with its line and column: the first token that can't stand behind those before
+/// it, or the end of a declaration that ends too early. Its work is linear in the tokens.
+/// `NoMemory` comes only where there is no memory for the declarations.
+pub fn parse(alloc: Global, text: &[u8], tokens: &[Token]) -> Result<Vec<Decl>, ParseFault>
+    requires few { length text.now ≤ 4194304 }
+    requires tokens { IsLexed text.now (Ok tokens.now) }
+    ensures tree { IfOk result (λ decls. IsOutcome text.now tokens.now (Ok decls.items)) }
+    ensures fault { IfErr result (λ fault. fault ≢ no_memory → IsOutcome text.now tokens.now (Err fault)) }
+{
+    let Ok(declared) = split_tokens(alloc, tokens, text.len() as u32) else {
+        return Err(ParseFault::NoMemory);
+    };
+    let decls = read_each(alloc, text, declared.as_slice())?;
+    Ok(decls)
+}
