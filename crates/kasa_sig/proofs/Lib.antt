@@ -1,0 +1,5 @@
+pub mod ListLemmas
+pub mod NumberLemmas
+pub mod KeptLemmas
+pub mod StepLemmas
+pub mod AfterLemmas

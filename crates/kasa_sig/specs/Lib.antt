@@ -1,0 +1,4 @@
+pub mod Mentions
+pub mod Words
+pub mod Outcome
+pub mod Owners
