@@ -1,14 +1,8 @@
 // Tables of one family in memory.
-ghost use Rattle.std.specs.Prelude.{◌≡◌, ℕ, ◌≤◌, List, [], ◌∷◌, length, Some, slice_get, IsTrue, ◌↔◌, IfOk};
-ghost use Rattle.kasa_families.specs.declared.family.Family.{Family};
-ghost use Rattle.kasa_families.specs.declared.row.Row.{Row};
-ghost use Rattle.kasa_families.specs.Family.{family_types};
-ghost use Rattle.kasa_families.specs.Spot.{place_of, StandsAt, HasNamedSites};
-ghost use Rattle.kasa_families.specs.Compatible.{IsCompatible};
-ghost use Rattle.kasa_families.specs.Table.{Table, families_of, HasShape};
-ghost use Rattle.kasa_families.specs.First.{IsLeastFrom, IsCompatibleRow};
+ghost use Rattle.std.specs.Prelude.{◌≡◌, [], ◌∷◌, IfOk};
+ghost use Rattle.kasa_families.specs.Table.{HasShape};
 
-use kasa_families::{Family, Row, Rows, Spot, is_compatible};
+use kasa_families::{Family, Row, Rows, Spot, first_among, first_type};
 use kasa_graph::Pattern;
 use kasa_num::{AgentType, FamilyNo, NoMemory};
 use std::alloc::Global;
@@ -52,51 +46,6 @@ impl OneTable {
         rows.push(row)?;
         Ok(OneTable { family, rows })
     }
-}
-
-// The row has the shape of the family's rows.
-pub fn has_shape(family: &Family, row: &Row) -> bool
-    ensures { IsTrue result ↔ HasShape family.now row.now }
-{
-    match (family, row) {
-        (Family::View { agent: _, sites }, Row::Locals(locals)) => {
-            locals.as_slice().len() == sites.as_slice().len()
-        }
-        (Family::Across { .. }, Row::Locals(locals)) => locals.as_slice().len() == 2,
-        (Family::Parallel { .. }, Row::Same) => true,
-        (Family::Parallel { .. }, Row::Different) => true,
-        _ => false,
-    }
-}
-
-fn first_type(family: &Family) -> AgentType
-    ensures { slice_get (family_types family.now) 0 ≡ Some result }
-{
-    match family {
-        Family::View { agent, .. } => *agent,
-        Family::Across { a, .. } => *a,
-        Family::Parallel { a, .. } => *a,
-    }
-}
-
-// The least number at or after `from` of a compatible row.
-fn first_among(
-    family: &Family,
-    rows: &[Row],
-    g: &Pattern,
-    spot: &Spot,
-    from: usize,
-) -> Option<usize>
-    requires stands { StandsAt g.now family.now (place_of spot.now) }
-    requires named { HasNamedSites g.now family.now }
-    ensures { IsLeastFrom (λ k. (row : Row) × (slice_get rows.now k ≡ Some row) × IsCompatible g.now family.now (place_of spot.now) row) from result }
-{
-    for k in from..rows.len() {
-        if is_compatible(g, family, spot, &rows[k]) {
-            return Some(k);
-        }
-    }
-    None
 }
 
 impl Rows for OneTable {

@@ -10,11 +10,11 @@ ghost use Rattle.kasa_pre.specs.Before.{AreFreed};
 ghost use Rattle.kasa_pre.specs.Narrow.{IsKnownTest};
 ghost use Rattle.kasa_pre.specs.Asked.{StandExists, StandsExist};
 
-use crate::listed::{OneTable, has_shape};
+use crate::listed::OneTable;
 use crate::narrow::{has_site, narrow, type_has_site};
 use crate::*;
 use kasa_families::{
-    Family, Local, LocalLink, Locals, Row, Sites, is_family, is_row, pattern, root,
+    Family, Local, LocalLink, Locals, Row, Sites, has_shape, is_family, is_row, pattern, root,
 };
 use kasa_graph::{LinkTest, Pattern, Signature, StateTest, Test, is_name, write_pattern};
 use kasa_num::{AgentType, StateNo};
