@@ -18,19 +18,8 @@ use Rattle.kasa_families.specs.declared.row.LocalLink.TheVariants.{Free, Partner
 use Rattle.kasa_families.specs.declared.row.Local.{Local}
 use Rattle.kasa_families.specs.Row.{IsLocalState, IsLocalLink, IsLocal, AreLocals}
 use Rattle.kasa_families.specs.Pattern.{local_state_test, local_link_test, with_local, with_locals}
+use Rattle.kasa_families.specs.Seen.{link_to, link_seen, local_in}
 use Rattle.kasa_families.proofs.RowTests.{HasNodeSite-with_local, state_test-with_local_same, link_test-with_local_same, state_test-with_locals_at, link_test-with_locals_at}
-
-abbrev link_to : Option ℕ → ℕ → LocalLink
-link_to None t = Free
-link_to (Some b) t = Partner b t
-
-abbrev link_seen : List (Option Agent) → Option (ℕ × ℕ) → LocalLink
-link_seen m None = Free
-link_seen m (Some p) = link_to (type_in m p.0) p.1
-
--- the local state of a site
-abbrev pub local_in : List (Option Agent) → ℕ → ℕ → Local
-local_in m c s = record { state = state_in m c s; link = link_seen m (partner_in m c s) }
 
 -- a local state is met at a site
 pub record MeetsLocal (m : List (Option Agent)) (cells : List ℕ) (c s : ℕ) (l : Local) : Type 0 where

@@ -22,7 +22,8 @@ use Rattle.kasa_families.specs.Pattern.{row_pattern, with_local}
 use Rattle.kasa_families.specs.Orthogonal.{ExtendsOnce}
 use Rattle.kasa_families.proofs.RowTests.{AllDifferent-ascends}
 use Rattle.kasa_families.proofs.RowPattern.{types_of-view, types_of-across_root, types_of-across, types_of-parallel_root, types_of-same, types_of-different, HasNodeSite-across_first, HasNodeSite-across_second, state_test-across_first, link_test-across_first, state_test-across_second, link_test-across_second, link_test-parallel_root_first, link_test-parallel_root_second, link_test-same_first, link_test-same_second, link_test-different_first, link_test-different_second}
-use Rattle.kasa_families.proofs.LocalLemmas.{local_in, MeetsLocal, local_in-only, IsLocal-local_in, MeetsLocal-local_in, IsEmbedding-with_local, AreLocals-local_in, IsEmbedding-with_locals, locals_in-only}
+use Rattle.kasa_families.specs.Seen.{local_in}
+use Rattle.kasa_families.proofs.LocalLemmas.{MeetsLocal, local_in-only, IsLocal-local_in, MeetsLocal-local_in, IsEmbedding-with_local, AreLocals-local_in, IsEmbedding-with_locals, locals_in-only}
 
 -- ---- how many cells there are, and of which types
 

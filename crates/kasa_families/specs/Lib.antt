@@ -1,5 +1,6 @@
 pub mod Family
 pub mod Row
+pub mod Seen
 pub mod Pattern
 pub mod Orthogonal
 pub mod Table

@@ -4,7 +4,7 @@ use Rattle.kasa_graph.specs.declared.mixture.Agent.{Agent}
 use Rattle.kasa_graph.specs.Mixture.{type_in}
 use Rattle.kasa_families.specs.declared.row.Row.{Row}
 use Rattle.kasa_families.specs.declared.row.Row.TheVariants.{Locals}
-pub use Rattle.kasa_families.proofs.LocalLemmas.{local_in}
+pub use Rattle.kasa_families.specs.Seen.{local_in}
 
 -- the row that the agent of a cell shows at some sites
 abbrev pub row_in : List (Option Agent) → List ℕ → ℕ → Row
