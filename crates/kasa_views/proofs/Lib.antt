@@ -1,3 +1,9 @@
 pub mod SeenLemmas
 pub mod ComesLemmas
 pub mod Forward
+pub mod StandSites
+pub mod OutcomeLemmas
+pub mod WorkedRules
+pub mod CollectLemmas
+pub mod WalkLemmas
+pub mod FoundLemmas

@@ -34,7 +34,7 @@ use Rattle.kasa_views.specs.Seen.{row_in, IsSeen}
 
 -- ---- cell by cell
 
-last_or : (d c : ℕ) → d < c + 1 → (d < c) ⊎ (d ≡ c)
+pub last_or : (d c : ℕ) → d < c + 1 → (d < c) ⊎ (d ≡ c)
 last_or d c l = elim (below_or d c) [
   | inl h ↦ inl h
   | inr h ↦ inr (let e = h.1 in omega arith)

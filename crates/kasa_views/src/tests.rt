@@ -11,13 +11,13 @@ use std::alloc::Global;
 use std::process::Abort;
 use std::test::Fail;
 
-const HUB: AgentType = AgentType(0);
+pub(crate) const HUB: AgentType = AgentType(0);
 
-const CART: AgentType = AgentType(1);
+pub(crate) const CART: AgentType = AgentType(1);
 
-const PORT: SiteNo = SiteNo(0);
+pub(crate) const PORT: SiteNo = SiteNo(0);
 
-const NOSE: SiteNo = SiteNo(0);
+pub(crate) const NOSE: SiteNo = SiteNo(0);
 
 fn add_type(
     rt: &impl Abort,
@@ -62,7 +62,7 @@ fn add_state(
 }
 
 // Hub(port,lock{open shut}) and Cart(nose,tail).
-fn yard(rt: &impl Abort, alloc: Global) -> Result<Signature, Fail> {
+pub(crate) fn yard(rt: &impl Abort, alloc: Global) -> Result<Signature, Fail> {
     let mut sig = Signature::new(alloc);
     add_type(rt, &mut sig, b"Hub", &[b"port", b"lock"])?;
     add_state(rt, &mut sig, HUB, SiteNo(1), b"open")?;
@@ -135,12 +135,12 @@ fn view(alloc: Global, agent: AgentType, sites: &[SiteNo]) -> Result<Family, Fai
     })
 }
 
-fn local(state: Option<StateNo>, link: LocalLink) -> Local {
+pub(crate) fn local(state: Option<StateNo>, link: LocalLink) -> Local {
     Local { state, link }
 }
 
 // A free lock in its first state.
-fn open() -> Local {
+pub(crate) fn open() -> Local {
     local(Some(StateNo(0)), LocalLink::Free)
 }
 

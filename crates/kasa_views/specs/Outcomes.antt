@@ -1,0 +1,47 @@
+-- Side effects on one agent: which lists of freed tests can come together, and the outcomes with one site more.
+use Rattle.std.specs.Prelude.{◌≡◌, ◌⊎◌, ℕ, true, List, Option, Some, None, slice_get}
+use Rattle.kasa_graph.specs.Lists.{Has}
+use Rattle.kasa_graph.specs.Pattern.{agent_at, HasNodeSite}
+use Rattle.kasa_families.specs.declared.row.Local.{Local}
+use Rattle.kasa_rules.specs.declared.rule.Written.{Written}
+use Rattle.kasa_rules.specs.declared.rule.Written.TheVariants as written
+use Rattle.kasa_rules.specs.Rule.{RuleParts, touched}
+use Rattle.kasa_pre.specs.declared.Stand.{Stand}
+use Rattle.kasa_pre.specs.declared.Stand.TheVariants.{Left, Made, Outside}
+use Rattle.kasa_pre.specs.declared.FreedBy.{FreedBy}
+use Rattle.kasa_views.specs.Comes.{local_after, local_freed, IsSource, Outcome, kept_before, freed_before}
+
+-- a touched site has one partner at most, so it frees one test at most
+abbrev pub HaveDifferentSources : List FreedBy → Type 0
+HaveDifferentSources freed = (i j : ℕ) (f g : FreedBy) → slice_get freed i ≡ Some f → slice_get freed j ≡ Some g → f.from ≡ g.from → f.«at» ≡ g.«at» → i ≡ j
+
+-- ---- which sites free a test
+
+-- a left node of the type has the site, which is touched
+abbrev pub IsTouchedPartner : RuleParts → ℕ → ℕ → ℕ → Type 0
+IsTouchedPartner r a y n = (agent_at r.left n ≡ Some a) × HasNodeSite r.left n y × (touched r n y ≡ true)
+
+-- it frees the only node's test
+abbrev pub IsTouchedFor : RuleParts → ℕ → ℕ → ℕ → FreedBy → Type 0
+IsTouchedFor r s a y f = (f.node ≡ 0) × (f.site ≡ s) × (f.«at» ≡ y) × IsTouchedPartner r a y f.from
+
+-- the same site frees one of the tests
+abbrev pub FreesToo : List FreedBy → FreedBy → Type 0
+FreesToo freed f = (g : FreedBy) × Has freed g × (g.from ≡ f.from) × (g.«at» ≡ f.«at»)
+
+-- ---- one site more
+
+-- one of the sources frees the site, and none of those that the outcome has
+abbrev pub FreesBefore : Local → List FreedBy → Outcome → Outcome → Type 0
+FreesBefore l sources rest out = (f : FreedBy) × Has sources f × ¬ FreesToo rest.freed f × (out ≡ freed_before l f rest)
+
+-- an outcome of the rest, with one site more
+abbrev pub ComesBefore : RuleParts → Stand → ℕ → Local → List Outcome → Outcome → Type 0
+ComesBefore r stand s l outs out =
+    (rest : Outcome) × Has outs rest × ((out ≡ kept_before (local_after r stand s l) rest) ⊎ ((f : FreedBy) × IsSource r stand s l f × ¬ FreesToo rest.freed f × (out ≡ freed_before (local_freed r stand s l) f rest)))
+
+-- the link of a site that doesn't exist, which is free at a created agent
+abbrev pub link_of_no_site : Stand → Option Written
+link_of_no_site (Left n) = None
+link_of_no_site (Made k) = Some written.Free
+link_of_no_site Outside = None

@@ -1,0 +1,94 @@
+// What a search for rows of a view asks, and the rows that it keeps.
+ghost use Rattle.std.specs.Prelude.{◌≡◌, ◌⊎◌, IsTrue, MatchOption, OnOk, slice_get};
+ghost use Rattle.std.specs.Bool.{MatchBool, OnTrue, OnFalse};
+ghost use Rattle.kasa_families.specs.declared.row.Row.{Row};
+ghost use Rattle.kasa_families.specs.Row.{IsRowBelow};
+ghost use Rattle.kasa_families.specs.Table.{rows_of};
+ghost use Rattle.kasa_views.specs.Results.{IsResult};
+ghost use Rattle.kasa_views.specs.Collect.{kept_by, IsSettled, IsWanted, GoesOn};
+
+use indexmap::IndexSet;
+use kasa_families::{Family, Row, Rows};
+use kasa_graph::Signature;
+use kasa_num::{AgentType, FamilyNo, NoMemory, SiteNo};
+use kasa_rules::Rule;
+use std::alloc::Global;
+
+/// What is looked for.
+#[derive(Clone, Copy)]
+pub(crate) enum Aim {
+    /// The rows that the rule yields, so many and one more at most.
+    UpTo(usize),
+    /// The least row that the rule yields and that the tables don't have.
+    FirstMissing,
+}
+
+/// Which rows are asked for: those that a rule yields from tables, of a view among their families.
+#[derive(Drop)]
+pub(crate) struct Search<'a, R> {
+    pub alloc: Global,
+    pub sig: &'a Signature,
+    pub rows: &'a R,
+    pub rule: &'a Rule,
+    pub number: FamilyNo,
+    pub family: &'a Family,
+    pub agent: AgentType,
+    pub sites: &'a [SiteNo],
+    pub aim: Aim,
+}
+
+/// Rows, each once.
+pub(crate) type Found = IndexSet<Row>;
+
+// No more rows are looked for.
+pub(crate) fn is_full<R: Rows>(search: &Search<R>, found: &Found) -> bool
+    ensures { OnTrue result ((row : Row) → IsSettled (rows_of (R.tables search.now.rows.now) search.now.number) search.now.aim found.now.keys row) }
+{
+    match search.aim {
+        Aim::UpTo(most) => found.len() > most,
+        Aim::FirstMissing => false,
+    }
+}
+
+// The row is to be kept if the rule yields it.
+pub(crate) fn is_wanted<R: Rows>(search: &Search<R>, found: &Found, row: &Row) -> bool
+    ensures wanted { OnTrue result (IsWanted (rows_of (R.tables search.now.rows.now) search.now.number) search.now.aim found.now.keys row.now) }
+    ensures settled { OnFalse result (IsSettled (rows_of (R.tables search.now.rows.now) search.now.number) search.now.aim found.now.keys row.now) }
+{
+    match search.aim {
+        Aim::UpTo(most) => found.len() <= most && !found.contains(row),
+        Aim::FirstMissing => !search.rows.has(search.number, row) && is_below_first(found, row),
+    }
+}
+
+// The row comes before the first of the found ones, if there is one.
+fn is_below_first(found: &Found, row: &Row) -> bool
+    ensures { MatchOption (slice_get found.now.keys 0) (IsTrue result) (λ least. MatchBool result (IsRowBelow row.now least) ((least ≡ row.now) ⊎ IsRowBelow least row.now)) }
+{
+    match found.first() {
+        None => true,
+        Some(least) => row.cmp(least).is_lt(),
+    }
+}
+
+// Keeps a row that the rule yields.
+pub(crate) fn keep<R: Rows>(search: &Search<R>, found: &mut Found, row: Row) -> Result<(), NoMemory>
+    requires wanted { IsWanted (rows_of (R.tables search.now.rows.now) search.now.number) search.now.aim found.old.keys row }
+    requires result { IsResult search.now.sig.now (R.tables search.now.rows.now) search.now.rule.now search.now.number row }
+    ensures on { OnOk result (GoesOn search.now.sig.now (R.tables search.now.rows.now) search.now.rule.now search.now.number search.now.aim found.old.keys found.new.keys) }
+    ensures settled { OnOk result (IsSettled (rows_of (R.tables search.now.rows.now) search.now.number) search.now.aim found.new.keys row) }
+{
+    make_room(search.aim, found);
+    found.insert(row)?;
+    Ok(())
+}
+
+// Where the least row is looked for, none is kept beside it.
+fn make_room(aim: Aim, found: &mut Found)
+    ensures { found.new.keys ≡ kept_by aim found.old.keys }
+{
+    match aim {
+        Aim::UpTo(_) => {}
+        Aim::FirstMissing => found.clear(),
+    }
+}

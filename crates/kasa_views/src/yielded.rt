@@ -1,0 +1,115 @@
+// The rows of a view that a rule yields from tables.
+ghost use Rattle.std.specs.Prelude.{◌≡◌, ◌≤◌, ℕ, length, List, Option, Some, slice_get, IfOk, MatchOption};
+ghost use Rattle.kasa_graph.specs.declared.mixture.Agent.{Agent};
+ghost use Rattle.kasa_graph.specs.Lists.{Has};
+ghost use Rattle.kasa_graph.specs.Mixture.{IsMixtureOver};
+ghost use Rattle.kasa_graph.specs.Embedding.{IsEmbedding};
+ghost use Rattle.kasa_families.specs.declared.family.Family.{Family};
+ghost use Rattle.kasa_families.specs.declared.row.Row.{Row};
+ghost use Rattle.kasa_families.specs.Pattern.{Occurs};
+ghost use Rattle.kasa_families.specs.Row.{IsRow};
+ghost use Rattle.kasa_families.specs.Table.{AreTables, families_of, rows_of};
+ghost use Rattle.kasa_rules.specs.Rule.{IsRuleOver};
+ghost use Rattle.kasa_rules.specs.Firing.{fire};
+ghost use Rattle.kasa_pre.specs.Closed.{Cover};
+ghost use Rattle.kasa_views.specs.View.{IsView};
+ghost use Rattle.kasa_views.specs.Results.{IsResult, AreResults, IsMissing, IsFirstMissing};
+ghost use Rattle.kasa_views.specs.Collect.{IsSettled, AreFound};
+
+use crate::collect::{Aim, Found, Search};
+use crate::walk::find;
+use kasa_families::{Family, Row, Rows};
+use kasa_graph::Signature;
+use kasa_num::{FamilyNo, NoMemory};
+use kasa_rules::Rule;
+use std::alloc::Global;
+
+/// The rows of a view that a rule yields from tables, each once, where they are at most `most`, and else `most + 1` of
+/// them. Where the tables hold all rows that occur in a mixture and the rule fires there, each row that occurs
+/// afterwards is one of them.
+pub fn results<R: Rows>(
+    alloc: Global,
+    sig: &Signature,
+    rows: &R,
+    rule: &Rule,
+    f: FamilyNo,
+    most: usize,
+) -> Result<Vec<Row>, NoMemory>
+    requires tables { AreTables sig.now (R.tables rows.now) }
+    requires over { IsRuleOver sig.now rule.now }
+    requires view { (family : Family) × (slice_get (families_of (R.tables rows.now)) f ≡ Some family) × IsView family }
+    requires most { most ≤ 200000 }
+    ensures results { IfOk result (λ found. AreResults sig.now (R.tables rows.now) rule.now f most found.items) }
+    ensures follows { IfOk result (λ found. length found.items ≤ most → (m : List (Option Agent)) (cells : List ℕ) (family : Family) (row : Row) → IsMixtureOver sig.now m → Cover sig.now (R.tables rows.now) m → IsEmbedding rule.now.left m cells → slice_get (families_of (R.tables rows.now)) f ≡ Some family → IsRow sig.now family row → Occurs sig.now family row (fire rule.now cells m) → Has found.items row) }
+{
+    let found = find_in(alloc, sig, rows, rule, f, Aim::UpTo(most))?;
+    listed(alloc, found)
+}
+
+// The found rows as a list.
+fn listed(alloc: Global, found: Found) -> Result<Vec<Row>, NoMemory>
+    ensures { IfOk result (λ rows. rows.items ≡ found.keys) }
+{
+    let mut rows = Vec::with_capacity(alloc, found.len())?;
+    for row in found {
+        rows.push(row)?;
+    }
+    Ok(rows)
+}
+
+/// The least row in row order that a rule yields from tables and that they don't have, None exactly where they have each
+/// row that it yields.
+pub fn missing<R: Rows>(
+    alloc: Global,
+    sig: &Signature,
+    rows: &R,
+    rule: &Rule,
+    f: FamilyNo,
+) -> Result<Option<Row>, NoMemory>
+    requires tables { AreTables sig.now (R.tables rows.now) }
+    requires over { IsRuleOver sig.now rule.now }
+    requires view { (family : Family) × (slice_get (families_of (R.tables rows.now)) f ≡ Some family) × IsView family }
+    ensures { IfOk result (λ answer. MatchOption answer ((row : Row) → ¬ IsMissing sig.now (R.tables rows.now) rule.now f row) (λ row. IsFirstMissing sig.now (R.tables rows.now) rule.now f row)) }
+{
+    let found = find_in(alloc, sig, rows, rule, f, Aim::FirstMissing)?;
+    match found.first() {
+        None => Ok(None),
+        Some(row) => Ok(Some(row.copy())),
+    }
+}
+
+// The rows of a view that a rule yields from tables, as many as the aim wants.
+fn find_in<R: Rows>(
+    alloc: Global,
+    sig: &Signature,
+    rows: &R,
+    rule: &Rule,
+    number: FamilyNo,
+    aim: Aim,
+) -> Result<Found, NoMemory>
+    requires tables { AreTables sig.now (R.tables rows.now) }
+    requires over { IsRuleOver sig.now rule.now }
+    requires view { (family : Family) × (slice_get (families_of (R.tables rows.now)) number ≡ Some family) × IsView family }
+    ensures found { IfOk result (λ found. AreFound sig.now (R.tables rows.now) rule.now number aim found.keys) }
+    ensures settled { IfOk result (λ found. (row : Row) → IsResult sig.now (R.tables rows.now) rule.now number row → IsSettled (rows_of (R.tables rows.now) number) aim found.keys row) }
+{
+    // Its contract says that there are at most 12 left nodes, which keeps the patterns before small enough for `pre`.
+    let _left = rule.left();
+    match rows.family(number) {
+        Some(family) => match family {
+            Family::View { agent, sites } => find(&Search {
+                alloc,
+                sig,
+                rows,
+                rule,
+                number,
+                family,
+                agent: *agent,
+                sites: sites.as_slice(),
+                aim,
+            }),
+            _ => unreachable!(),
+        },
+        None => unreachable!(),
+    }
+}
