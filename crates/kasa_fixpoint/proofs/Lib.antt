@@ -1,0 +1,6 @@
+pub mod CountLemmas
+pub mod GrowLemmas
+pub mod TableRows
+pub mod StepLemmas
+pub mod LoopLemmas
+pub mod SolveLemmas

@@ -1,0 +1,11 @@
+//! The least closed tables of a model over families of patterns.
+#![tactic(auto)]
+
+mod fault;
+mod growing;
+mod rounds;
+#[cfg(test)]
+mod tests;
+
+pub use fault::SolveFault;
+pub use rounds::solve;
