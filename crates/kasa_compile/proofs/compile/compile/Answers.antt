@@ -1,0 +1,14 @@
+use Rattle.std.proofs.Common.{[]}
+use Rattle.kasa_compile.specs.Compiling.{AreCompiled}
+use Rattle.kasa_compile.proofs.CompiledLemmas.{model_said, is_model, is_within}
+use Rattle.kasa_compile.proofs.compile.compile.Goals as goal
+
+pub invariant_of-result : goal.invariant_of-result
+invariant_of-result c =
+    let are : AreCompiled c.args.text.now c.args.sig c.args.decls.now [] c.new-inits.result c.new-rules.result = rw (c.new-inits.ensures, c.new-rules.ensures) c.in_ok-inits.ensures.compiled in
+    (is_model c.args.text.now c.args.sig c.args.decls.now c.new-inits.result c.new-rules.result are, is_within c.args.text.now c.args.sig c.args.decls.now c.new-inits.result c.new-rules.result are)
+
+pub returns-clause-model : goal.returns-clause-model
+returns-clause-model c =
+    let are : AreCompiled c.args.text.now c.args.sig c.args.decls.now [] c.new-inits.result c.new-rules.result = rw (c.new-inits.ensures, c.new-rules.ensures) c.in_ok-inits.ensures.compiled in
+    model_said c.args.text.now c.args.sig c.args.decls.now c.new-inits.result c.new-rules.result are

@@ -1,0 +1,99 @@
+// The two sides of a rule.
+ghost use Rattle.std.specs.Prelude.{◌≡◌, Some, None, IfOk, OnOk};
+ghost use Rattle.kasa_compile.specs.Sides.{with_pair, sides_of};
+
+use crate::said::{AgentSaid, Pair};
+use kasa_num::{NoMemory, NodeNo};
+use kasa_rules::End;
+use std::alloc::Global;
+use std::marker::Model;
+
+/// The agents on the left and on the right of a rule in order; for each on the left its number on the right, none where
+/// it is deleted; for each on the right what it is in the rule; and the numbers on the right of those that are created.
+#[derive(Drop)]
+pub struct Sides {
+    pub left: Vec<AgentSaid>,
+    pub right: Vec<AgentSaid>,
+    pub after: Vec<Option<usize>>,
+    pub ends: Vec<End>,
+    pub made: Vec<usize>,
+}
+
+impl Model for Sides {
+    ghost use Rattle.kasa_compile.specs.Sides.{SidesParts};
+
+    ghost Value = { SidesParts };
+
+    ghost view = { λ x. record { left = x.left.items; right = x.right.items; after = x.after.items; ends = x.ends.items; made = x.made.items } };
+}
+
+impl Sides {
+    /// The sides of a rule whose agents stand in these pairs.
+    pub fn of(alloc: Global, pairs: Vec<Pair>) -> Result<Sides, NoMemory>
+        ensures { IfOk result (λ sides. sides ≡ sides_of pairs.items) }
+    {
+        let mut sides = Sides {
+            left: Vec::new(alloc),
+            right: Vec::new(alloc),
+            after: Vec::new(alloc),
+            ends: Vec::new(alloc),
+            made: Vec::new(alloc),
+        };
+        for pair in pairs {
+            sides.add(pair.left, pair.right)?;
+        }
+        Ok(sides)
+    }
+
+    // Adds what stands at one more place.
+    fn add(&mut self, left: Option<AgentSaid>, right: Option<AgentSaid>) -> Result<(), NoMemory>
+        ensures { OnOk result (self.new ≡ with_pair self.old left right) }
+    {
+        match (left, right) {
+            (Some(left), Some(right)) => self.keep(left, right),
+            (Some(left), None) => self.delete(left),
+            (None, Some(right)) => self.create(right),
+            (None, None) => Ok(()),
+        }
+    }
+
+    // Adds an agent that stays.
+    fn keep(&mut self, left: AgentSaid, right: AgentSaid) -> Result<(), NoMemory>
+        ensures { OnOk result (self.new ≡ with_pair self.old (Some left) (Some right)) }
+    {
+        self.after.push(Some(self.right.len()))?;
+        self.ends.push(End::Left(NodeNo(number(self.left.len())?)))?;
+        self.left.push(left)?;
+        self.right.push(right)?;
+        Ok(())
+    }
+
+    // Adds an agent that is deleted.
+    fn delete(&mut self, left: AgentSaid) -> Result<(), NoMemory>
+        ensures { OnOk result (self.new ≡ with_pair self.old (Some left) None) }
+    {
+        self.after.push(None)?;
+        self.left.push(left)?;
+        Ok(())
+    }
+
+    // Adds an agent that is created.
+    fn create(&mut self, right: AgentSaid) -> Result<(), NoMemory>
+        ensures { OnOk result (self.new ≡ with_pair self.old None (Some right)) }
+    {
+        self.ends.push(End::Made(number(self.made.len())?))?;
+        self.made.push(self.right.len())?;
+        self.right.push(right)?;
+        Ok(())
+    }
+}
+
+// A number that an end of a bond can have. Beyond 65,535 there is no room for one.
+fn number(count: usize) -> Result<u16, NoMemory>
+    ensures { IfOk result (λ n. n ≡ count) }
+{
+    if count > u16::MAX as usize {
+        return Err(NoMemory);
+    }
+    Ok(count as u16)
+}
