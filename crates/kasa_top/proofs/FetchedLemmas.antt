@@ -1,10 +1,8 @@
 -- What a fetch gives, in terms of what is held.
-use Rattle.std.proofs.Common.{◌≡◌, ◌≤◌, ◌<◌, ◌+◌, ℕ, List, take, length, Option, Some, None, option_map, IfSome, sym, refl, arith, ap, ◌∙◌, ◌⊎◌, inl, inr}
+use Rattle.std.proofs.Common.{◌≡◌, ◌≤◌, ◌<◌, ℕ, List, take, length, Option, Some, None, option_map, IfSome, sym, refl, arith, ap, ◌∙◌, inl, inr}
 use Rattle.std.proofs.lemmas.List.{take_all, length-take}
 use Rattle.kasa_edge.specs.Shelf.{Held, held_at}
-use Rattle.kasa_top.specs.Outcome.{IsHeldAs, IsNotRead}
 use Rattle.kasa_top.specs.Fetched.{Fetched}
-use Rattle.kasa_top.specs.GateText.{IsGateText}
 
 -- what the clause of a fetch says
 pub fetched : (held : Held) (name bytes : List ℕ) → length bytes ≤ 4194305 →

@@ -2,14 +2,11 @@
 use Rattle.kasa_families.proofs.RowTests.{Ascends-tail}
 use Rattle.std.proofs.Common.{Bool, true, false, IsTrue, ◌≡◌, ◌≢◌, ℕ, zero, suc, ◌+◌, ◌-◌, ◌<◌, ◌≤◌, ◌⊎◌, inl, inr, List, [], ◌∷◌, ◌++◌, length, get_or, refl, ap, subst, sym, ◌∙◌, arith}
 use Rattle.std.specs.Prelude.{Some, slice_get}
-use Rattle.std.specs.List.{list_any}
 use Rattle.std.proofs.Math.Dec.{eqb}
-use Rattle.std.proofs.lemmas.Bool.{eq-eqb, eqb-true}
-use Rattle.std.proofs.lemmas.Bool.Decides.{eqb_tells}
+use Rattle.std.proofs.lemmas.Bool.{eq-eqb}
 use Rattle.std.proofs.lemmas.Option.{slice_get_read, slice_get_within}
-use Rattle.std.proofs.lemmas.Map.Keys.{any_passes_from_place}
-use Rattle.kasa_graph.specs.Lists.{Has}
-use Rattle.kasa_graph.proofs.ListLemmas.{below_or}
+use Rattle.kasa_graph.specs.Lists.{Has, AllDifferent}
+use Rattle.kasa_graph.proofs.ListLemmas.{below_or, Has-append, Has-left, Has-right, AllDifferent-tail, AllDifferent-head}
 use Rattle.kasa_families.specs.Family.{Ascends}
 use Rattle.kasa_top.specs.Plan.{IsListOf, IsWithin}
 
@@ -43,20 +40,10 @@ Has-cons x xs y (suc k, e) = inr (k, e)
 
 -- one of them, or the last
 pub Has-push : {X : Type 0} (xs : List X) (y x : X) → Has (xs ++ y ∷ []) x → Has xs x ⊎ (x ≡ y)
-Has-push [] y x h = elim (Has-cons y [] x h) [ inl e ↦ inr e | inr none ↦ absurd (Has-[] x none) ]
-Has-push (z ∷ xs) y x h = elim (Has-cons z (xs ++ y ∷ []) x h) [
-  | inl e ↦ let first : Has (z ∷ xs) x = (zero, cc) in inl first
-  | inr more ↦ elim (Has-push xs y x more) [ inl old ↦ inl (Has-later z xs x old) | inr e ↦ inr e ]
+Has-push xs y x h = elim (Has-append xs (y ∷ []) x h) [
+  | inl old ↦ inl old
+  | inr last ↦ elim (Has-cons y [] x last) [ inl e ↦ inr e | inr none ↦ absurd (Has-[] x none) ]
 ]
-
-pub Has-push_old : {X : Type 0} (xs : List X) (y x : X) → Has xs x → Has (xs ++ y ∷ []) x
-Has-push_old [] y x h = absurd (Has-[] x h)
-Has-push_old (z ∷ xs) y x (zero, e) = (zero, e)
-Has-push_old (z ∷ xs) y x (suc k, e) = Has-later z (xs ++ y ∷ []) x (Has-push_old xs y x (k, e))
-
-pub Has-push_new : {X : Type 0} (xs : List X) (y : X) → Has (xs ++ y ∷ []) y
-Has-push_new [] y = Has-head y []
-Has-push_new (z ∷ xs) y = Has-later z (xs ++ y ∷ []) y (Has-push_new xs y)
 
 -- the element that a loop reads at its index
 pub element_at : {X : Type 0} (xs ys : List X) (i : ℕ) (x : X) → xs ≡ ys → i < length xs → x ≡ get_or xs i x → slice_get ys i ≡ Some x
@@ -77,26 +64,10 @@ each_more P xs i x at here before k less y e = by (less_or k i less)
 pub each_end : {X : Type 0} (P : X → Type 0) (xs : List X) (i : ℕ) → length xs ≤ i → IsEachBefore P xs i → (x : X) → Has xs x → P x
 each_end P xs i all before x (k, e) = let within : k < length xs = slice_get_within xs k x e in before k (omega arith) x e
 
--- ---- a search for a number
-
-pub has_listed : (s : ℕ) (xs : List ℕ) → list_any (λ y. eqb y s) xs ≡ true → Has xs s
-has_listed s [] e = absurd cc
-has_listed s (x ∷ xs) e = elim (eqb_tells x s) [
-  | inl equal ↦ let same : x ≡ s = equal.1 in let first : Has (x ∷ xs) s = (zero, cc) in first
-  | inr other ↦ Has-later x xs s (has_listed s xs (rw other.0 at e))
-]
-
-pub listed_has : (s : ℕ) (xs : List ℕ) → Has xs s → list_any (λ y. eqb y s) xs ≡ true
-listed_has s xs (k, e) = any_passes_from_place (λ y. eqb y s) xs k s e (eq-eqb s s refl)
-
 -- ---- a test for no elements
 
 pub some_listed : {X : Type 0} (xs : List X) (b : Bool) → b ≡ eqb (length xs) 0 → b ≡ false → xs ≢ []
 some_listed xs b told is_false none = let both : eqb (length xs) 0 ≡ true = eq-eqb (length xs) 0 (ap length none) in cc
-
-pub none_listed : {X : Type 0} (xs : List X) (b : Bool) → b ≡ eqb (length xs) 0 → b ≡ true → xs ≡ []
-none_listed [] b told is_true = refl
-none_listed (x ∷ xs) b told is_true = let zero_long : suc (length xs) ≡ 0 = eqb-true (suc (length xs)) 0 (sym told ∙ is_true) in absurd (omega arith)
 
 -- ---- ascending lists
 
@@ -166,8 +137,8 @@ IsListBelow-add P n xs here a = record {
 }
   where
     by : (s : ℕ) → P s → (s < n) ⊎ (s ≡ n) → Has (xs ++ n ∷ []) s
-    by s p (inl less) = Has-push_old xs n s ((a.exact s).1 (less, p))
-    by s p (inr e) = rw e (Has-push_new xs n)
+    by s p (inl less) = Has-left xs (n ∷ []) s ((a.exact s).1 (less, p))
+    by s p (inr e) = rw e (Has-right xs (n ∷ []) n (Has-head n []))
 
     added : (s : ℕ) → s < n + 1 → P s → Has (xs ++ n ∷ []) s
     added s less p = by s p (less_or s n less)
@@ -187,3 +158,45 @@ IsListBelow-skip P n xs not_here a = record {
 
 pub IsListBelow-end : (P : ℕ → Type 0) (n : ℕ) (xs : List ℕ) → ((s : ℕ) → P s → s < n) → IsListBelow P n xs → IsListOf P xs
 IsListBelow-end P n xs within a = IsListOf-along (λ s. (s < n) × P s) P xs (λ s p. p.1) (λ s p. (within s p, p)) a
+
+-- where each number has the property or not, there is such a list
+pub list_below : (P : ℕ → Type 0) → ((s : ℕ) → P s ⊎ (P s → ⊥)) → (n : ℕ) → (xs : List ℕ) × IsListBelow P n xs
+list_below P told zero = ([], IsListBelow-start P)
+list_below P told (suc n) =
+    let before = list_below P told n in
+    let next : n + 1 ≡ suc n = omega arith in
+    elim (told n) [
+      | inl here ↦ (before.0 ++ n ∷ [], subst (λ k. IsListBelow P k (before.0 ++ n ∷ [])) next (IsListBelow-add P n before.0 here before.1))
+      | inr out ↦ (before.0, subst (λ k. IsListBelow P k before.0) next (IsListBelow-skip P n before.0 out before.1))
+    ]
+
+-- ---- different elements
+
+-- what stands at place k is left out
+abbrev without : {X : Type 0} → List X → ℕ → List X
+without [] k = []
+without (x ∷ xs) zero = xs
+without (x ∷ xs) (suc k) = x ∷ without xs k
+
+length-without : {X : Type 0} (xs : List X) (k : ℕ) → k < length xs → length xs ≡ length (without xs k) + 1
+length-without [] k less = absurd (omega arith)
+length-without (x ∷ xs) zero less = omega arith
+length-without (x ∷ xs) (suc k) less = let e : length xs ≡ length (without xs k) + 1 = length-without xs k (omega arith) in omega arith
+
+has_without : {X : Type 0} (xs : List X) (k : ℕ) (x y : X) → slice_get xs k ≡ Some x → (y ≡ x → ⊥) → Has xs y → Has (without xs k) y
+has_without [] k x y at other h = absurd (Has-[] y h)
+has_without (z ∷ xs) zero x y at other h = elim (Has-cons z xs y h) [ inl e ↦ let same : z ≡ x = cc in absurd (other (e ∙ same)) | inr more ↦ more ]
+has_without (z ∷ xs) (suc k) x y at other h = elim (Has-cons z xs y h) [
+  | inl e ↦ let first : Has (z ∷ without xs k) y = (zero, ap Some (sym e)) in first
+  | inr more ↦ Has-later z (without xs k) y (has_without xs k x y at other more)
+]
+
+-- different elements that all stand in another list are no more than there
+pub length-different : {X : Type 0} (xs ys : List X) → AllDifferent xs → ((x : X) → Has xs x → Has ys x) → length xs ≤ length ys
+length-different [] ys different within = omega arith
+length-different (x ∷ xs) ys different within =
+    let at : Has ys x = within x (Has-head x xs) in
+    let fewer : length xs ≤ length (without ys at.0) = length-different xs (without ys at.0) (AllDifferent-tail x xs different)
+    (λ y h. has_without ys at.0 x y at.1 (λ e. AllDifferent-head x xs h.0 different (h.1 ∙ ap Some e)) (within y (Has-later x xs y h))) in
+    let long : length ys ≡ length (without ys at.0) + 1 = length-without ys at.0 (slice_get_within ys at.0 x at.1) in
+    omega arith

@@ -1,9 +1,9 @@
 -- Views in a sorted set: their order is that of the plan, and what an insertion adds.
-use Rattle.std.proofs.Common.{◌≡◌, ℕ, zero, ◌+◌, ◌<◌, ◌≤◌, ◌⊎◌, inl, inr, List, [], ◌∷◌, length, map, refl, ap, sym, subst, ◌∙◌, arith, Some, slice_get, Vec}
+use Rattle.std.proofs.Common.{◌≡◌, ◌≢◌, ℕ, ◌<◌, ◌⊎◌, inl, inr, ◌↔◌, List, [], ◌∷◌, refl, ap, sym, subst, ◌∙◌, slice_get, Vec}
 use Rattle.std.specs.Global.{Global}
 use Rattle.std.specs.declared.cmp.Ordering.{Ordering}
 use Rattle.std.specs.declared.cmp.Ordering.TheVariants.{Less, Equal, Greater}
-use Rattle.std.specs.Ordering.{nat_cmp, ordering_then, match_ordering}
+use Rattle.std.specs.Ordering.{nat_cmp, ordering_then}
 use Rattle.std.specs.Cmp.Lexicographic.{slice_cmp}
 use Rattle.std.specs.BTreeSet.{insert_key}
 use Rattle.std.specs.List.Sorted.{IsStrictlySortedBy}
@@ -16,8 +16,8 @@ use Rattle.kasa_graph.proofs.ListLemmas.{some_map}
 use Rattle.kasa_families.specs.declared.family.Family.{Family}
 use Rattle.kasa_families.specs.declared.family.Family.TheVariants.{View}
 use Rattle.kasa_top.specs.Plan.{PrecedesList, Precedes, AreInOrder}
-use Rattle.kasa_top.specs.GatePlan.{view_family, view_families}
-use Rattle.kasa_top.proofs.PlanLists.{Has-[], Has-head, Has-later, Has-cons}
+use Rattle.kasa_top.specs.ViewSets.{site_list, site_lists, view_family, view_families}
+use Rattle.kasa_top.proofs.InsertedKeys as keys
 
 -- how a sorted set compares views
 abbrev pub view_cmp : ℕ × Vec ℕ Global → ℕ × Vec ℕ Global → Ordering
@@ -71,55 +71,27 @@ ordered_views vs sorted i j f g less at_i at_j =
 
 -- ---- what an insertion adds
 
-abbrev inserted_families : Ordering → List (ℕ × Vec ℕ Global) → ℕ × Vec ℕ Global → ℕ × Vec ℕ Global → List (ℕ × Vec ℕ Global) → List Family
-inserted_families o vs v w more = view_families (match_ordering o (v ∷ w ∷ vs) (w ∷ vs) (w ∷ more))
-
-inserted_at : (o : Ordering) (vs : List (ℕ × Vec ℕ Global)) (v w : ℕ × Vec ℕ Global) (more : List (ℕ × Vec ℕ Global)) (f : Family) →
-    (Has (view_families more) f → Has (view_families vs) f ⊎ (f ≡ view_family v)) → Has (inserted_families o vs v w more) f → Has (view_families (w ∷ vs)) f ⊎ (f ≡ view_family v)
-inserted_at Less vs v w more f later h = elim (Has-cons (view_family v) (view_families (w ∷ vs)) f h) [ inl e ↦ inr e | inr old ↦ inl old ]
-inserted_at Equal vs v w more f later h = inl h
-inserted_at Greater vs v w more f later h = elim (Has-cons (view_family w) (view_families more) f h) [
-  | inl e ↦ let first : Has (view_families (w ∷ vs)) f = (zero, ap Some (sym e)) in inl first
-  | inr rest ↦ elim (later rest) [ inl old ↦ inl (Has-later (view_family w) (view_families vs) f old) | inr e ↦ inr e ]
-]
-
 pub has_inserted : (vs : List (ℕ × Vec ℕ Global)) (v : ℕ × Vec ℕ Global) (f : Family) → Has (view_families (insert_key view_cmp vs v)) f → Has (view_families vs) f ⊎ (f ≡ view_family v)
-has_inserted [] v f h = elim (Has-cons (view_family v) [] f h) [ inl e ↦ inr e | inr none ↦ absurd (Has-[] f none) ]
-has_inserted (w ∷ vs) v f h = inserted_at (view_cmp v w) vs v w (insert_key view_cmp vs v) f (has_inserted vs v f) h
-
-old_at : (o : Ordering) (vs : List (ℕ × Vec ℕ Global)) (v w : ℕ × Vec ℕ Global) (more : List (ℕ × Vec ℕ Global)) (f : Family) →
-    (Has (view_families vs) f → Has (view_families more) f) → Has (view_families (w ∷ vs)) f → Has (inserted_families o vs v w more) f
-old_at Less vs v w more f later h = Has-later (view_family v) (view_families (w ∷ vs)) f h
-old_at Equal vs v w more f later h = h
-old_at Greater vs v w more f later h = elim (Has-cons (view_family w) (view_families vs) f h) [
-  | inl e ↦ let first : Has (view_families (w ∷ more)) f = (zero, ap Some (sym e)) in first
-  | inr rest ↦ Has-later (view_family w) (view_families more) f (later rest)
-]
+has_inserted vs v f h = keys.has_inserted view_cmp view_family vs v f h
 
 pub inserted_has_old : (vs : List (ℕ × Vec ℕ Global)) (v : ℕ × Vec ℕ Global) (f : Family) → Has (view_families vs) f → Has (view_families (insert_key view_cmp vs v)) f
-inserted_has_old [] v f h = absurd (Has-[] f h)
-inserted_has_old (w ∷ vs) v f h = old_at (view_cmp v w) vs v w (insert_key view_cmp vs v) f (inserted_has_old vs v f) h
-
-new_at : (o : Ordering) (vs : List (ℕ × Vec ℕ Global)) (v w : ℕ × Vec ℕ Global) (more : List (ℕ × Vec ℕ Global)) → view_cmp v w ≡ o → Has (view_families more) (view_family v) → Has (inserted_families o vs v w more) (view_family v)
-new_at Less vs v w more e later = Has-head (view_family v) (view_families (w ∷ vs))
-new_at Equal vs v w more e later = let first : Has (view_families (w ∷ vs)) (view_family v) = (zero, ap Some (sym (equal_views v w e))) in first
-new_at Greater vs v w more e later = Has-later (view_family w) (view_families more) (view_family v) later
+inserted_has_old vs v f h = keys.inserted_has_old view_cmp view_family vs v f h
 
 pub inserted_has_new : (vs : List (ℕ × Vec ℕ Global)) (v : ℕ × Vec ℕ Global) → Has (view_families (insert_key view_cmp vs v)) (view_family v)
-inserted_has_new [] v = Has-head (view_family v) []
-inserted_has_new (w ∷ vs) v = new_at (view_cmp v w) vs v w (insert_key view_cmp vs v) refl (inserted_has_new vs v)
+inserted_has_new vs v = keys.inserted_has_new view_cmp view_family equal_views vs v
 
--- the views that an iterator gives are those of the set
-pub view_families-given : (vs : List (ℕ × Vec ℕ Global)) → view_families (map (λ v. v) vs) ≡ view_families vs
-view_families-given [] = refl
-view_families-given (v ∷ vs) = ap (λ fs. view_family v ∷ fs) (view_families-given vs)
+-- ---- the same of sets of sites
 
--- at most one more
-length_at : (o : Ordering) (vs : List (ℕ × Vec ℕ Global)) (v w : ℕ × Vec ℕ Global) (more : List (ℕ × Vec ℕ Global)) → length more ≤ length vs + 1 → length (match_ordering o (v ∷ w ∷ vs) (w ∷ vs) (w ∷ more)) ≤ length (w ∷ vs) + 1
-length_at Less vs v w more most = omega arith
-length_at Equal vs v w more most = omega arith
-length_at Greater vs v w more most = omega arith
+abbrev pub site_list_cmp : Vec ℕ Global → Vec ℕ Global → Ordering
+site_list_cmp v w = slice_cmp nat_cmp v.items w.items
 
-pub length-inserted : (vs : List (ℕ × Vec ℕ Global)) (v : ℕ × Vec ℕ Global) → length (insert_key view_cmp vs v) ≤ length vs + 1
-length-inserted [] v = omega arith
-length-inserted (w ∷ vs) v = length_at (view_cmp v w) vs v w (insert_key view_cmp vs v) (length-inserted vs v)
+-- the sets have come to be those before and this one, which isn't empty
+pub adds_set : (vs : List (Vec ℕ Global)) (v : Vec ℕ Global) (sites : List ℕ) → v.items ≡ sites → sites ≢ [] → (set : List ℕ) → Has (site_lists (insert_key site_list_cmp vs v)) set ↔ (Has (site_lists vs) set ⊎ ((set ≡ sites) × (set ≢ [])))
+adds_set vs v sites e some set = (there, back)
+  where
+    there : Has (site_lists (insert_key site_list_cmp vs v)) set → Has (site_lists vs) set ⊎ ((set ≡ sites) × (set ≢ []))
+    there h = elim (keys.has_inserted site_list_cmp site_list vs v set h) [ inl old ↦ inl old | inr same ↦ inr (same ∙ e, λ none. some (sym (same ∙ e) ∙ none)) ]
+
+    back : Has (site_lists vs) set ⊎ ((set ≡ sites) × (set ≢ [])) → Has (site_lists (insert_key site_list_cmp vs v)) set
+    back (inl old) = keys.inserted_has_old site_list_cmp site_list vs v set old
+    back (inr (same, own)) = subst (Has (site_lists (insert_key site_list_cmp vs v))) (e ∙ sym same) (keys.inserted_has_new site_list_cmp site_list (λ v w. exact_bytes v.items w.items) vs v)

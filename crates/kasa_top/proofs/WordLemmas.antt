@@ -1,5 +1,5 @@
 -- The words of `analyse`.
-use Rattle.std.proofs.Common.{◌≡◌, ◌≤◌, ◌<◌, ℕ, List, [], ◌∷◌, length, map, get_or, codes, refl, sym, ap, arith}
+use Rattle.std.proofs.Common.{◌≡◌, ◌≤◌, ℕ, List, [], ◌∷◌, length, map, get_or, codes, arith}
 use Rattle.kasa_top.specs.Words.{IsAnalyse, IsTextName}
 
 two : {S : Type 0} (xs : List S) (first second : S) → 2 ≤ length xs → length xs ≤ 2 →

@@ -1,35 +1,53 @@
 -- What a call of `run` answers and prints, by what the shelf holds.
-use Rattle.std.specs.Prelude.{◌≡◌, ℕ, ◌<◌, ◌≤◌, ◌⊎◌, ◌++◌, List, [], length, take, Option, Some, None, option_map}
+use Rattle.std.specs.Prelude.{◌≡◌, ℕ, ◌<◌, ◌≤◌, ◌⊎◌, ◌++◌, List, length, take, Option, Some, None, option_map}
 use Rattle.kasa_edge.specs.Shelf.{Held, held_at}
+use Rattle.kasa_rules.specs.declared.model.Model.{Model}
+use Rattle.kasa_compile.specs.declared.fault.ModelFault.{ModelFault}
+use Rattle.kasa_compile.specs.Model.{IsModelOf, IsFaultOf}
+use Rattle.kasa_families.specs.declared.family.Family.{Family}
 use Rattle.kasa_families.specs.Table.{Table, AreTables, families_of}
-use Rattle.kasa_families.specs.Row.{AreAscending}
-use Rattle.kasa_graph.specs.Lists.{Has}
 use Rattle.kasa_pre.specs.Closed.{IsLeast}
-use Rattle.kasa_top.specs.Gate.{GateParts, IsGate, model_of}
-use Rattle.kasa_top.specs.GateText.{IsGateText, IsGateTextOf}
-use Rattle.kasa_top.specs.Plan.{IsViewPlan}
-use Rattle.kasa_top.specs.LemmasText.{lemmas_text}
-use Rattle.kasa_top.specs.Status.{fixed_text}
+use Rattle.kasa_tables.specs.Insert.{row_count}
+use Rattle.kasa_fixpoint.specs.Limit.{PassesLimit}
+use Rattle.kasa_top.specs.Plan.{IsViewPlan, PlansMore}
+use Rattle.kasa_top.specs.LemmasText.{IsLemmasText}
+use Rattle.kasa_top.specs.Status.{status_text}
 use Rattle.kasa_top.specs.Words.{IsAnalyse}
 use Rattle.kasa_top.specs.declared.status.Status.{Status}
-use Rattle.kasa_top.specs.declared.status.Status.TheVariants.{Done, BadWords, ReadFault, WriteFault, NoMemory, NotRead}
+use Rattle.kasa_top.specs.declared.status.Status.TheVariants.{Done, BadWords, BadModel, TooLong, TooManyRows, TooManyFamilies, ReadFault, WriteFault, NoMemory}
 
--- the report of a model's text: the least closed tables of the planned views, printed with rows in row order
+-- the text's model, and its planned views, which are at most 8,000
+pub record Plans (text : List ℕ) (model : Model) (families : List Family) : Type 0 where
+  pub short : length text ≤ 4194304
+  pub read : IsModelOf text model
+  pub planned : IsViewPlan model families
+  pub few : length families ≤ 8000
+
+-- the report of a model's text: the least closed tables of the planned views, printed
 pub record IsReportOf (text report : List ℕ) : Type 0 where
-  pub gate : GateParts
+  pub model : Model
   pub tables : List Table
-  pub few : length text ≤ 4194304
-  pub is_gate : IsGate gate
-  pub read : IsGateTextOf text gate
-  pub planned : IsViewPlan (model_of gate) (families_of tables)
-  pub valid : AreTables gate.sig tables
-  pub least : IsLeast (model_of gate) tables
-  pub in_order : (t : Table) → Has tables t → AreAscending t.rows
-  pub printed : report ≡ lemmas_text gate.sig tables
+  pub plans : Plans text model (families_of tables)
+  pub valid : AreTables model.sig tables
+  pub least : IsLeast model tables
+  pub few_rows : row_count tables ≤ 200000
+  pub printed : IsLemmasText model.sig tables report
 
--- the text isn't read: it is too long, or has another form
-abbrev pub IsNotRead : List ℕ → Type 0
-IsNotRead text = (4194304 < length text) ⊎ ¬ IsGateText text
+-- the text is longer than 4 MiB
+abbrev pub IsTooLong : List ℕ → Type 0
+IsTooLong text = 4194304 < length text
+
+-- the text has no model, for this fault
+abbrev pub HasFault : ModelFault → List ℕ → Type 0
+HasFault fault text = (length text ≤ 4194304) × IsFaultOf text fault
+
+-- more than 8,000 views are planned for the text's model
+abbrev pub HasTooManyFamilies : List ℕ → Type 0
+HasTooManyFamilies text = (length text ≤ 4194304) × ((model : Model) × IsModelOf text model × PlansMore 8000 model)
+
+-- no closed tables of the planned views have at most 200,000 rows
+abbrev pub HasTooManyRows : List ℕ → Type 0
+HasTooManyRows text = (model : Model) × (families : List Family) × Plans text model families × PassesLimit 200000 model families
 
 -- where the shelf tells what it holds, it holds the text under the name
 abbrev pub IsHeldAs : Held → List ℕ → List ℕ → Type 0
@@ -52,9 +70,12 @@ pub record FetchFails (words : List (List ℕ)) (held : Held) (counted : Type 0)
 -- the status that is due, and its text; `counted` says that a fault of reading was counted
 abbrev pub IsOutcome : List (List ℕ) → Held → Type 0 → Status → List ℕ → Type 0
 IsOutcome words held counted Done text = Fetches words held (λ (model : List ℕ). IsReportOf model text)
-IsOutcome words held counted BadWords text = ((name : List ℕ) → ¬ IsAnalyse words name) × (text ≡ fixed_text BadWords)
-IsOutcome words held counted ReadFault text = FetchFails words held counted × (text ≡ fixed_text ReadFault)
-IsOutcome words held counted NotRead text = Fetches words held IsNotRead × (text ≡ fixed_text NotRead)
+IsOutcome words held counted BadWords text = ((name : List ℕ) → ¬ IsAnalyse words name) × (text ≡ status_text BadWords)
+IsOutcome words held counted ReadFault text = FetchFails words held counted × (text ≡ status_text ReadFault)
+IsOutcome words held counted TooLong text = Fetches words held IsTooLong × (text ≡ status_text TooLong)
+IsOutcome words held counted (BadModel fault) text = Fetches words held (HasFault fault) × (text ≡ status_text (BadModel fault))
+IsOutcome words held counted TooManyFamilies text = Fetches words held HasTooManyFamilies × (text ≡ status_text TooManyFamilies)
+IsOutcome words held counted TooManyRows text = Fetches words held HasTooManyRows × (text ≡ status_text TooManyRows)
 IsOutcome words held counted WriteFault text = ⊥
 IsOutcome words held counted NoMemory text = ⊥
 

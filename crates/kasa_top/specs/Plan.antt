@@ -94,3 +94,7 @@ AreInOrder families = (i j : ℕ) (f g : Family) → i < j → slice_get familie
 pub record IsViewPlan (model : Model) (families : List Family) : Type 0 where
   pub ordered : AreInOrder families
   pub exact : (f : Family) → Has families f ↔ IsPlanned model f
+
+-- the plan has more than so many views
+abbrev pub PlansMore : ℕ → Model → Type 0
+PlansMore most model = (families : List Family) → IsViewPlan model families → most < length families

@@ -6,16 +6,18 @@ use Rattle.kasa_graph.specs.Lists.{Has}
 use Rattle.kasa_families.specs.declared.family.Family.{Family}
 use Rattle.kasa_families.specs.Table.{families_of}
 use Rattle.kasa_pre.specs.Closed.{LemmaHolds}
+use Rattle.kasa_rules.specs.Rule.{RuleParts}
 use Rattle.kasa_rules.specs.Reached.{Reached}
-use Rattle.kasa_top.specs.Gate.{model_of}
+use Rattle.kasa_graph.specs.Embedding.{IsEmbedding}
+use Rattle.kasa_pre.specs.Allowed.{IsDead}
 use Rattle.kasa_top.specs.Outcome.{IsHeldAs, IsReportOf}
 use Rattle.kasa_top.specs.Words.{IsAnalyse}
 
--- the lemma of each family of the report's tables, printed or not, holds in each mixture that the report's model reaches
-abbrev pub IsSound : (text printed : List ℕ) → IsReportOf text printed → Type 0
-IsSound text printed report =
-    (m : List (Option Agent)) → Reached (model_of report.gate) m →
-    (family : Family) → Has (families_of report.tables) family → LemmaHolds report.gate.sig report.tables family m
+-- in each mixture that the report's model reaches, the lemma of each family of the report's tables holds, printed or not,
+-- and no rule fires whose left pattern the tables don't allow
+pub record IsSound (text printed : List ℕ) (report : IsReportOf text printed) : Type 0 where
+  pub lemmas : (m : List (Option Agent)) → Reached report.model m → (family : Family) → Has (families_of report.tables) family → LemmaHolds report.model.sig report.tables family m
+  pub dead : (m : List (Option Agent)) → Reached report.model m → (r : RuleParts) → IsDead report.model.sig report.tables r → (cells : List ℕ) → ¬ IsEmbedding r.left m cells
 
 -- the sink took a sound report of the text that is held under the name that the words give
 pub record TakesSoundReport (words : List (List ℕ)) (held : Held) (old new : Option (List ℕ)) : Type 0 where

@@ -1,15 +1,11 @@
 //! What the program does: from the words and the texts that it is given to the text that it prints.
 #![tactic(auto)]
 
-mod gate;
-pub mod laws;
-mod least;
+mod faults;
 mod lemmas;
 mod plan;
 mod program;
-mod reader;
 mod status;
-mod tables;
 #[cfg(test)]
 mod tests;
 

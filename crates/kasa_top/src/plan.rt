@@ -1,35 +1,75 @@
 // The plan of views: which sites of a type are looked at together.
-ghost use Rattle.std.specs.Prelude.{◌≡◌, ℕ, ◌+◌, ◌≤◌, ◌<◌, ◌⊎◌, ◌↔◌, List, length, Option, IsTrue, IfOk, OnOk};
-ghost use Rattle.std.specs.BTreeSet.{btree_set_len};
+ghost use Rattle.std.specs.Prelude.{◌≡◌, ◌≢◌, ℕ, ◌≤◌, ◌<◌, ◌⊎◌, ◌↔◌, List, [], length, Err, IsTrue, IfOk, OnOk};
 ghost use Rattle.kasa_graph.specs.Lists.{Has, AllDifferent};
-ghost use Rattle.kasa_graph.specs.Signature.{state_counts};
+ghost use Rattle.kasa_graph.specs.Pattern.{HasNodeSite};
+ghost use Rattle.kasa_rules.specs.Rule.{IsRuleOver};
 ghost use Rattle.kasa_families.specs.declared.family.Family.{Family};
 ghost use Rattle.kasa_families.specs.declared.family.Family.TheVariants.{View};
 ghost use Rattle.kasa_families.specs.Family.{IsFamily};
-ghost use Rattle.kasa_top.specs.Gate.{model_of};
-ghost use Rattle.kasa_top.specs.Plan.{IsListOf, IsMentioned, IsUnmentionedSet, IsWithin, AreInOrder, IsViewPlan};
-ghost use Rattle.kasa_top.specs.GatePlan.{IsNamed, IsNamedAt, IsWholeSet, IsLargest, IsViewFamily, view_families};
+ghost use Rattle.kasa_views.specs.View.{IsView};
+ghost use Rattle.kasa_top.specs.declared.plan.PlanFault.TheVariants.{TooMany as too_many, NoMemory as no_memory};
+ghost use Rattle.kasa_top.specs.Plan.{AsksState, AsksLink, Mentions, IsListOf, IsSiteSet, IsWithin, AreInOrder, IsViewPlan, PlansMore};
+ghost use Rattle.kasa_top.specs.ViewSets.{IsSomePart, IsPartOfRule, IsMentionedPart, IsInSome, IsInNoLarger, IsViewFamily, site_lists, view_families};
 
-use crate::gate::{GateModel, GateRule, GateSite};
 use kasa_families::{Family, Sites};
-use kasa_num::{AgentType, NoMemory, SiteNo};
+use kasa_graph::{LinkTest, Signature, StateTest};
+use kasa_num::{AgentType, NoMemory, NodeNo, SiteNo};
+use kasa_rules::{Model, Rule};
 use std::alloc::Global;
 use std::collections::BTreeSet;
 
-/// Views, each a type and an ascending list of its sites, in their order.
+/// Why there is no plan.
+#[derive(Clone, Copy, Debug, PartialEq, Eq)]
+pub enum PlanFault {
+    /// There are more than 8,000 views.
+    TooMany,
+    /// There is no memory for the plan.
+    NoMemory,
+}
+
+impl From<NoMemory> for PlanFault {
+    ghost from_gives = { λ _ e. e ≡ no_memory };
+
+    fn from(_: NoMemory) -> PlanFault {
+        PlanFault::NoMemory
+    }
+}
+
+// The most views of a plan.
+const MOST_VIEWS: usize = 8000;
+
+// Views, each a type and an ascending list of its sites, in their order.
 type Views = BTreeSet<(AgentType, Vec<SiteNo>)>;
 
-/// The views of a model: for each type the largest of the sets of sites that a rule mentions together and of those that
-/// none mentions, as the covering classes of KaSa; at most 65 a type. It fails only for want of memory.
-pub fn plan(alloc: Global, gate: &GateModel) -> Result<Vec<Family>, NoMemory>
-    ensures plan { IfOk result (λ families. IsViewPlan (model_of gate.now) families.items) }
-    ensures valid { IfOk result (λ families. (f : Family) → Has families.items f → IsFamily gate.now.sig f) }
+// Different sets of sites, each an ascending list.
+type SiteSets = BTreeSet<Vec<SiteNo>>;
+
+/// The views of a model, ascending by type and then by sites: for each type the largest of the sets of sites that some
+/// left node of a rule mentions, and of those that none does; a set of more than 16 sites is cut into its 16 least and
+/// the rest. They are the covering classes of KaSa.
+pub fn plan(alloc: Global, model: &Model) -> Result<Vec<Family>, PlanFault>
+    ensures plan { IfOk result (λ families. IsViewPlan model.now families.items) }
+    ensures valid { IfOk result (λ families. (f : Family) → Has families.items f → IsFamily model.now.sig f) }
+    ensures views { IfOk result (λ families. (f : Family) → Has families.items f → IsView f) }
     ensures different { IfOk result (λ families. AllDifferent families.items) }
-    ensures few { IfOk result (λ families. length families.items ≤ 520) }
+    ensures few { IfOk result (λ families. length families.items ≤ 8000) }
+    ensures too_many { result ≡ Err too_many → PlansMore 8000 model.now }
+{
+    let families = all_views(alloc, model)?;
+    if families.len() > MOST_VIEWS {
+        return Err(PlanFault::TooMany);
+    }
+    Ok(families)
+}
+
+// All views of the model, however many.
+fn all_views(alloc: Global, model: &Model) -> Result<Vec<Family>, NoMemory>
+    ensures plan { IfOk result (λ families. IsViewPlan model.now families.items) }
+    ensures valid { IfOk result (λ families. (f : Family) → Has families.items f → IsFamily model.now.sig f) }
 {
     let mut views = BTreeSet::new(alloc);
-    for agent in 0..gate.sig.types() {
-        add_views(alloc, gate, AgentType(agent as u16), &mut views)?;
+    for agent in 0..model.sig.types() {
+        add_views(alloc, model, AgentType(agent as u16), &mut views)?;
     }
     families_of(alloc, views)
 }
@@ -52,18 +92,17 @@ fn families_of(alloc: Global, views: Views) -> Result<Vec<Family>, NoMemory>
 // Adds the views of a type.
 fn add_views(
     alloc: Global,
-    gate: &GateModel,
+    model: &Model,
     agent: AgentType,
     views: &mut Views,
 ) -> Result<(), NoMemory>
-    ensures added { OnOk result ((f : Family) → Has (view_families views.new.keys) f ↔ (Has (view_families views.old.keys) f ⊎ IsViewFamily (model_of gate.now) agent f)) }
-    ensures few { OnOk result (btree_set_len views.new ≤ btree_set_len views.old + 65) }
+    ensures { OnOk result ((f : Family) → Has (view_families views.new.keys) f ↔ (Has (view_families views.old.keys) f ⊎ IsViewFamily model.now agent f)) }
 {
-    if gate.sig.sites(agent) == 0 {
+    if model.sig.sites(agent) == 0 {
         views.insert((agent, Vec::new(alloc)))?;
         return Ok(());
     }
-    let sets = site_sets(alloc, gate, agent)?;
+    let sets = site_sets(alloc, model, agent)?;
     add_largest(alloc, agent, &sets, views)
 }
 
@@ -74,91 +113,164 @@ fn add_largest(
     sets: &[Sites],
     views: &mut Views,
 ) -> Result<(), NoMemory>
-    ensures added { OnOk result ((f : Family) → Has (view_families views.new.keys) f ↔ (Has (view_families views.old.keys) f ⊎ ((sites : List ℕ) × (f ≡ View agent sites) × IsLargest sets.now sites))) }
-    ensures few { OnOk result (btree_set_len views.new ≤ btree_set_len views.old + length sets.now) }
+    ensures { OnOk result ((f : Family) → Has (view_families views.new.keys) f ↔ (Has (view_families views.old.keys) f ⊎ ((sites : List ℕ) × (f ≡ View agent sites) × Has sets.now sites × IsInNoLarger sets.now sites))) }
 {
     for set in sets {
         let sites = set.as_slice();
-        if !sites.is_empty() && is_in_no_larger(sites, sets) {
+        if is_in_no_larger(sites, sets) {
             views.insert((agent, Vec::from_slice(alloc, sites)?))?;
         }
     }
     Ok(())
 }
 
-// The sites of the type that each rule mentions, and those that none does.
-fn site_sets(alloc: Global, gate: &GateModel, agent: AgentType) -> Result<Vec<Sites>, NoMemory>
-    ensures exact { IfOk result (λ sets. (sites : List ℕ) → Has sets.items sites ↔ IsWholeSet (model_of gate.now) agent sites) }
-    ensures few { IfOk result (λ sets. length sets.items ≤ length gate.now.rules + 1) }
+// The different sets of sites of the type: those that the left nodes mention, and the sites that none does, cut where
+// they are large.
+fn site_sets(alloc: Global, model: &Model, agent: AgentType) -> Result<Vec<Sites>, NoMemory>
+    ensures { IfOk result (λ sets. (sites : List ℕ) → Has sets.items sites ↔ IsSiteSet model.now agent sites) }
 {
-    let mut sets = Vec::new(alloc);
-    for rule in &gate.rules {
-        if rule.agent == agent {
-            sets.push(mentioned_sites(alloc, rule)?)?;
-        }
+    let mut sets = mentioned_sets(alloc, model, agent)?;
+    let others = unmentioned_sites(alloc, model.sig.sites(agent), &sets)?;
+    add_parts(alloc, &others, &mut sets)?;
+    list_of(alloc, sets)
+}
+
+// The sets as lists of sites, in their order.
+fn list_of(alloc: Global, sets: SiteSets) -> Result<Vec<Sites>, NoMemory>
+    ensures { IfOk result (λ lists. lists.items ≡ site_lists sets.keys) }
+{
+    let mut lists = Vec::new(alloc);
+    for sites in sets {
+        lists.push(Sites::new(sites))?;
     }
-    sets.push(unmentioned_sites(alloc, gate, agent)?)?;
+    Ok(lists)
+}
+
+// The sets of sites that the left nodes of this type mention, cut where they are large.
+fn mentioned_sets(alloc: Global, model: &Model, agent: AgentType) -> Result<SiteSets, NoMemory>
+    ensures { IfOk result (λ sets. (sites : List ℕ) → Has (site_lists sets.keys) sites ↔ IsMentionedPart model.now agent sites) }
+{
+    let mut sets = BTreeSet::new(alloc);
+    for rule in model.rules.as_slice() {
+        add_mentioned(alloc, &model.sig, rule, agent, &mut sets)?;
+    }
     Ok(sets)
 }
 
-// The sites that the rule mentions.
-fn mentioned_sites(alloc: Global, rule: &GateRule) -> Result<Sites, NoMemory>
-    requires { length rule.now.sites ≤ 4 }
-    ensures { IfOk result (λ sites. IsListOf (IsNamedAt rule.now.sites) sites) }
+// Adds those of one rule.
+fn add_mentioned(
+    alloc: Global,
+    sig: &Signature,
+    rule: &Rule,
+    agent: AgentType,
+    sets: &mut SiteSets,
+) -> Result<(), NoMemory>
+    requires { IsRuleOver sig.now rule.now }
+    ensures { OnOk result ((sites : List ℕ) → Has (site_lists sets.new.keys) sites ↔ (Has (site_lists sets.old.keys) sites ⊎ IsPartOfRule rule.now agent sites)) }
 {
-    let mut sites = Vec::new(alloc);
-    for (number, site) in rule.sites.iter().enumerate() {
-        if is_named(*site) {
-            sites.push(SiteNo(number as u8))?;
+    for number in 0..rule.left().nodes() {
+        let node = NodeNo(number as u16);
+        if rule.left().agent(node) == agent {
+            let sites = mentioned_sites(alloc, sig, rule, node)?;
+            add_parts(alloc, &sites, sets)?;
         }
     }
-    Ok(Sites::new(sites))
+    Ok(())
 }
 
-// The sites of the type that no rule mentions.
-fn unmentioned_sites(alloc: Global, gate: &GateModel, agent: AgentType) -> Result<Sites, NoMemory>
-    ensures { IfOk result (λ sites. IsUnmentionedSet (model_of gate.now) agent sites) }
+// Adds the 16 least of the sites, and the rest of them, where there are some.
+fn add_parts(alloc: Global, sites: &[SiteNo], sets: &mut SiteSets) -> Result<(), NoMemory>
+    ensures { OnOk result ((part : List ℕ) → Has (site_lists sets.new.keys) part ↔ (Has (site_lists sets.old.keys) part ⊎ IsSomePart sites.now part)) }
+{
+    let (first, rest) = sites.split_at(sites.len().min(16));
+    add_set(alloc, first, sets)?;
+    add_set(alloc, rest, sets)
+}
+
+// Adds a set of sites that isn't empty.
+fn add_set(alloc: Global, sites: &[SiteNo], sets: &mut SiteSets) -> Result<(), NoMemory>
+    ensures { OnOk result ((set : List ℕ) → Has (site_lists sets.new.keys) set ↔ (Has (site_lists sets.old.keys) set ⊎ ((set ≡ sites.now) × (set ≢ [])))) }
+{
+    if !sites.is_empty() {
+        sets.insert(Vec::from_slice(alloc, sites)?)?;
+    }
+    Ok(())
+}
+
+// The sites that a left node of the rule mentions.
+fn mentioned_sites(
+    alloc: Global,
+    sig: &Signature,
+    rule: &Rule,
+    node: NodeNo,
+) -> Result<Vec<SiteNo>, NoMemory>
+    requires node { node < length rule.now.left }
+    requires over { IsRuleOver sig.now rule.now }
+    ensures { IfOk result (λ sites. IsListOf (Mentions rule.now node) sites.items) }
 {
     let mut sites = Vec::new(alloc);
-    for number in 0..gate.sig.sites(agent) {
+    for number in 0..sig.sites(rule.left().agent(node)) {
         let site = SiteNo(number as u8);
-        if !is_mentioned(gate, agent, site) {
+        if mentions(rule, node, site) {
             sites.push(site)?;
         }
     }
-    Ok(Sites::new(sites))
+    Ok(sites)
 }
 
-// Some rule on an agent of this type mentions the site.
-fn is_mentioned(gate: &GateModel, agent: AgentType, site: SiteNo) -> bool
-    ensures { IsTrue result ↔ IsMentioned (model_of gate.now) agent site }
+// The rule tests or writes the state or the link at this site.
+fn mentions(rule: &Rule, node: NodeNo, site: SiteNo) -> bool
+    requires { HasNodeSite rule.now.left node site }
+    ensures { IsTrue result ↔ Mentions rule.now node site }
 {
-    for rule in &gate.rules {
-        if rule.agent == agent && is_named_at(&rule.sites, site) {
+    tests_state(rule.left().state(node, site))
+        || tests_link(rule.left().link(node, site))
+        || rule.written_state(node, site).is_some()
+        || rule.written_link(node, site).is_some()
+}
+
+fn tests_state(test: StateTest) -> bool
+    ensures { IsTrue result ↔ AsksState test }
+{
+    !matches!(test, StateTest::Any)
+}
+
+fn tests_link(test: LinkTest) -> bool
+    ensures { IsTrue result ↔ AsksLink test }
+{
+    !matches!(test, LinkTest::Any)
+}
+
+// Those of the first so many sites that stand in none of the sets.
+fn unmentioned_sites(alloc: Global, count: usize, sets: &SiteSets) -> Result<Vec<SiteNo>, NoMemory>
+    requires { count ≤ 32 }
+    ensures { IfOk result (λ sites. IsListOf (λ s. (s < count) × (¬ IsInSome (site_lists sets.now.keys) s)) sites.items) }
+{
+    let mut sites = Vec::new(alloc);
+    for number in 0..count {
+        let site = SiteNo(number as u8);
+        if !is_in_some(site, sets) {
+            sites.push(site)?;
+        }
+    }
+    Ok(sites)
+}
+
+// Some set has the site.
+fn is_in_some(site: SiteNo, sets: &SiteSets) -> bool
+    ensures { IsTrue result ↔ IsInSome (site_lists sets.now.keys) site }
+{
+    for set in sets {
+        if set.contains(&site) {
             return true;
         }
     }
     false
 }
 
-fn is_named_at(sites: &[GateSite], site: SiteNo) -> bool
-    ensures { IsTrue result ↔ IsNamedAt sites.now site }
-{
-    match sites.get(site.0 as usize) {
-        None => false,
-        Some(done) => is_named(*done),
-    }
-}
-
-fn is_named(site: GateSite) -> bool
-    ensures { IsTrue result ↔ IsNamed site }
-{
-    site.tested.is_some() || site.written.is_some()
-}
-
 // Each set that has all these sites has no others.
 fn is_in_no_larger(sites: &[SiteNo], sets: &[Sites]) -> bool
-    ensures { IsTrue result ↔ ((others : List ℕ) → Has sets.now others → IsWithin sites.now others → IsWithin others sites.now) }
+    ensures { IsTrue result ↔ IsInNoLarger sets.now sites.now }
 {
     for set in sets {
         let others = set.as_slice();

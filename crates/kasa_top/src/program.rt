@@ -1,19 +1,25 @@
 // The one public call: words and texts in, a status and the printed text out.
-ghost use Rattle.std.specs.Prelude.{◌≡◌, ◌≢◌, ◌≤◌, ◌<◌, ◌+◌, ◌++◌, ◌⊎◌, ℕ, length, map, take, drop, IsTrue, ◌↔◌, IfOk, IfErr, OnOk, OnErr, MatchOption, MatchResult, Some, None, option_map, string_bytes, codes};
+ghost use Rattle.std.specs.Prelude.{◌≡◌, ◌≢◌, ◌≤◌, ◌<◌, ◌+◌, ◌++◌, ◌⊎◌, ℕ, length, map, take, drop, List, IsTrue, ◌↔◌, IfOk, IfErr, OnOk, OnErr, MatchOption, MatchResult, Some, None, option_map, string_bytes, codes};
 ghost use Rattle.kasa_edge.specs.Causes.{Rose};
 ghost use Rattle.kasa_edge.specs.Shelf.{held_at};
-ghost use Rattle.kasa_top.specs.Outcome.{Ends, IsNotRead, IsOutcome, IsReportOf};
+ghost use Rattle.kasa_top.specs.Outcome.{Ends, Fetches};
 ghost use Rattle.kasa_top.specs.Words.{IsAnalyse, IsTextName};
 ghost use Rattle.kasa_top.specs.Fetched.{Fetched};
 ghost use Rattle.kasa_top.specs.Sound.{TakesSoundReport};
-ghost use Rattle.kasa_top.specs.Status.{fixed_text};
+ghost use Rattle.kasa_top.specs.FaultText.{fault_text};
+ghost use Rattle.kasa_top.specs.Status.{status_text};
+ghost use Rattle.kasa_top.specs.Due.{IsMadeAndWritten, IsRefused, IsSolved, IsSoundReport, IsUnreported, IsUnsolved, IsWritten};
 
 use crate::Status;
-use crate::least::solve;
+use crate::faults::fault_text;
 use crate::lemmas::lemmas_section;
 use crate::plan::plan;
-use crate::reader::read_gate;
+use kasa_compile::{ModelFault, read_model};
 use kasa_edge::{Failed, FetchFault, Shelf, Sink};
+use kasa_fixpoint::solve;
+use kasa_num::NoMemory;
+use kasa_rules::Model;
+use kasa_tables::PlainTables;
 use std::alloc::Global;
 
 /// The most bytes of a model's text: 4 MiB.
@@ -61,26 +67,32 @@ fn fetch_model<S: Shelf>(shelf: &mut S, name: &str) -> Result<Vec<u8>, Status>
     }
 }
 
+// The least tables of a model's planned views.
+fn solve_plan(alloc: Global, model: &Model) -> Result<PlainTables, Status>
+    ensures solved { IfOk result (λ tables. IsSolved model.now tables) }
+    ensures unsolved { IfErr result (λ status. IsUnsolved model.now status) }
+{
+    let families = plan(alloc, model)?;
+    Ok(solve(alloc, model, families)?)
+}
+
 // The report of a model's text.
 fn report(alloc: Global, text: &[u8]) -> Result<Vec<u8>, Status>
-    ensures report { IfOk result (λ printed. IsReportOf text.now printed.items) }
-    ensures refused { IfErr result (λ status. (status ≡ Status.NoMemory) ⊎ ((status ≡ Status.NotRead) × IsNotRead text.now)) }
+    ensures report { IfOk result (λ printed. IsSoundReport text.now printed.items) }
+    ensures unreported { IfErr result (λ status. IsUnreported text.now status) }
 {
     if text.len() > MOST {
-        return Err(Status::NotRead);
+        return Err(Status::TooLong);
     }
-    let Some(gate) = read_gate(alloc, text)? else {
-        return Err(Status::NotRead);
-    };
-    let families = plan(alloc, &gate)?;
-    let tables = solve(alloc, &gate, families)?;
-    Ok(lemmas_section(alloc, &gate.sig, &tables)?)
+    let model = read_model(alloc, text)?;
+    let tables = solve_plan(alloc, &model)?;
+    Ok(lemmas_section(alloc, &model.sig, &tables)?)
 }
 
 // The report that is due, or the status without one.
 fn answer<S: Shelf>(alloc: Global, words: &[String], shelf: &mut S) -> Result<Vec<u8>, Status>
-    ensures report { IfOk result (λ text. IsOutcome (map string_bytes words.now) (S.held shelf.old) (Rose (S.read_faults shelf.old) (S.read_faults shelf.new)) Status.Done text.items) }
-    ensures refused { IfErr result (λ status. (status ≡ Status.NoMemory) ⊎ IsOutcome (map string_bytes words.now) (S.held shelf.old) (Rose (S.read_faults shelf.old) (S.read_faults shelf.new)) status (fixed_text status)) }
+    ensures report { IfOk result (λ printed. Fetches (map string_bytes words.now) (S.held shelf.old) (λ (text : List ℕ). IsSoundReport text printed.items)) }
+    ensures refused { IfErr result (λ status. IsRefused (map string_bytes words.now) (S.held shelf.old) (Rose (S.read_faults shelf.old) (S.read_faults shelf.new)) status) }
     ensures same { S.held shelf.new ≡ S.held shelf.old }
 {
     let Some(name) = model_name(words) else {
@@ -120,10 +132,8 @@ fn write_all<O: Sink>(out: &mut O, text: &[u8]) -> Result<(), Failed>
 
 // Writes the text due with a status. A fault of writing wins over every other status.
 fn finish<O: Sink>(out: &mut O, text: &[u8], status: Status) -> Status
-    requires written { status ≢ Status.WriteFault }
-    ensures ok { result ≢ Status.WriteFault → (result ≡ status) × (O.taken out.new ≡ option_map (λ t. t ++ text.now) (O.taken out.old)) }
-    ensures part { result ≡ Status.WriteFault → (n : ℕ) × (n < length text.now) × (O.taken out.new ≡ option_map (λ t. t ++ take n text.now) (O.taken out.old)) }
-    ensures failed { result ≡ Status.WriteFault → Rose (O.faults out.old) (O.faults out.new) }
+    requires { status ≢ Status.WriteFault }
+    ensures { IsWritten text.now status (Rose (O.faults out.old) (O.faults out.new)) result (O.taken out.old) (O.taken out.new) }
 {
     match write_all(out, text) {
         Ok(()) => status,
@@ -131,20 +141,25 @@ fn finish<O: Sink>(out: &mut O, text: &[u8], status: Status) -> Status
     }
 }
 
-// Makes the text due and writes it.
-fn answer_and_print<S: Shelf, O: Sink>(
-    alloc: Global,
-    words: &[String],
-    shelf: &mut S,
-    out: &mut O,
-) -> Status
-    ensures ends { Ends (map string_bytes words.now) (S.held shelf.old) (Rose (S.read_faults shelf.old) (S.read_faults shelf.new)) (Rose (O.faults out.old) (O.faults out.new)) result (O.taken out.old) (O.taken out.new) }
-    ensures same { S.held shelf.new ≡ S.held shelf.old }
+// Makes the text of a model's fault and writes it.
+fn refuse_model<O: Sink>(alloc: Global, out: &mut O, fault: ModelFault) -> Status
+    ensures { IsMadeAndWritten (fault_text fault) (Status.BadModel fault) (Rose (O.faults out.old) (O.faults out.new)) result (O.taken out.old) (O.taken out.new) }
 {
-    match answer(alloc, words, shelf) {
-        Ok(text) => finish(out, text.as_slice(), Status::Done),
-        Err(Status::NoMemory) => Status::NoMemory,
-        Err(status) => finish(out, status.text(), status),
+    match fault_text(alloc, &fault) {
+        Ok(text) => finish(out, text.as_slice(), Status::BadModel(fault)),
+        Err(NoMemory) => Status::NoMemory,
+    }
+}
+
+// Writes the text of a status that is due without a report.
+fn refuse<O: Sink>(alloc: Global, out: &mut O, status: Status) -> Status
+    requires { status ≢ Status.WriteFault }
+    ensures { IsMadeAndWritten (status_text status) status (Rose (O.faults out.old) (O.faults out.new)) result (O.taken out.old) (O.taken out.new) }
+{
+    match status {
+        Status::NoMemory => Status::NoMemory,
+        Status::BadModel(fault) => refuse_model(alloc, out, fault),
+        status => finish(out, status.fixed_text(), status),
     }
 }
 
@@ -156,5 +171,8 @@ pub fn run<S: Shelf, O: Sink>(alloc: Global, words: &[String], shelf: &mut S, ou
     ensures sound { result ≡ Status.Done → TakesSoundReport (map string_bytes words.now) (S.held shelf.old) (O.taken out.old) (O.taken out.new) }
     ensures same { S.held shelf.new ≡ S.held shelf.old }
 {
-    answer_and_print(alloc, words, shelf, out)
+    match answer(alloc, words, shelf) {
+        Ok(text) => finish(out, text.as_slice(), Status::Done),
+        Err(status) => refuse(alloc, out, status),
+    }
 }

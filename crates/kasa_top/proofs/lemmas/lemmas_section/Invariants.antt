@@ -1,7 +1,6 @@
-use Rattle.std.proofs.Common.{◌≡◌, ◌++◌, take}
-use Rattle.std.specs.List.{flat_map}
-use Rattle.kasa_top.specs.LemmasText.{table_text}
+use Rattle.std.proofs.Common.{take}
+use Rattle.kasa_top.proofs.OrderedLemmas.{IsWrittenSoFar}
 use Rattle.kasa_top.proofs.lemmas.lemmas_section.Given as goal
 
-abbrev pub invariant-loop-table : goal.invariant-loop-table
-invariant-loop-table l = l.out.items ≡ l.initial.out.items ++ flat_map (table_text l.sig) (take l.table-index l.table-items)
+abbrev pub invariant-loop-f : goal.invariant-loop-f
+invariant-loop-f g l = IsWrittenSoFar l.sig (take l.f (g.R.Rows.tables l.rows)) l.initial.out.items l.out.items

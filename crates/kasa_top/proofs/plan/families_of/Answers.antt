@@ -2,8 +2,9 @@ use Rattle.std.proofs.Common.{◌≡◌, ap, sym, subst, ◌∙◌}
 use Rattle.std.proofs.lemmas.Map.Iter.{iter_end}
 use Rattle.kasa_graph.proofs.SignatureLemmas.{map-push}
 use Rattle.kasa_top.specs.Plan.{AreInOrder}
-use Rattle.kasa_top.specs.GatePlan.{view_family, view_families}
-use Rattle.kasa_top.proofs.ViewOrder.{view_families-given, ordered_views}
+use Rattle.kasa_top.specs.ViewSets.{view_family, view_families}
+use Rattle.kasa_top.proofs.InsertedKeys.{map-given}
+use Rattle.kasa_top.proofs.ViewOrder.{ordered_views}
 use Rattle.kasa_top.proofs.plan.families_of.Goals as goal
 use Rattle.kasa_top.proofs.plan.families_of.Goals.{After-drop-agent-iterator-2}
 
@@ -15,7 +16,7 @@ loop-agent-preserved c =
 all_families : (c : After-drop-agent-iterator-2) → c.loop-agent.families.items ≡ view_families c.args.views.keys
 all_families c =
     let all = iter_end _ _ _ _ _ _ _ c.into_iter-agent-iterator.ensures.into_iter_gives.0 c.loop-agent.yielded_by c.in-None.is c.next.ensures.steps in
-    c.loop-agent.invariant ∙ sym (view_families-given c.loop-agent.yielded) ∙ ap view_families all.0
+    c.loop-agent.invariant ∙ sym (map-given view_family c.loop-agent.yielded) ∙ ap view_families all.0
 
 pub returns-clause-same : goal.returns-clause-same
 returns-clause-same c = all_families c

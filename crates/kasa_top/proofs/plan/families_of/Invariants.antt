@@ -1,5 +1,5 @@
 use Rattle.std.proofs.Common.{◌≡◌}
-use Rattle.kasa_top.specs.GatePlan.{view_families}
+use Rattle.kasa_top.specs.ViewSets.{view_families}
 use Rattle.kasa_top.proofs.plan.families_of.Given as goal
 
 abbrev pub invariant-loop-agent : goal.invariant-loop-agent

@@ -1,27 +1,32 @@
-use Rattle.std.proofs.Common.{◌≡◌, ap, ◌∙◌, arith, Some, slice_get, length, ◌<◌}
-use Rattle.std.proofs.lemmas.Option.{slice_get_within}
-use Rattle.kasa_top.specs.GatePlan.{IsNamed, IsNamedAt}
-use Rattle.kasa_top.proofs.PlanLists.{element_at, told_not, IsListBelow-start, IsListBelow-add, IsListBelow-skip, IsListBelow-end}
-use Rattle.kasa_top.proofs.GateRules.{IsNamed-at}
+use Rattle.std.proofs.Common.{◌≡◌, ◌<◌, ◌≤◌, length, ap, ◌∙◌, arith}
+use Rattle.kasa_graph.specs.Signature.{state_counts, HasSite}
+use Rattle.kasa_graph.proofs.SiteLemmas.{HasNodeSite-over}
+use Rattle.kasa_top.specs.Plan.{Mentions, IsLeftNode}
+use Rattle.kasa_top.proofs.PlanLists.{told_not, IsListBelow-add, IsListBelow-skip, IsListBelow-end}
+use Rattle.kasa_top.proofs.MentionLemmas.{mentions_within}
 use Rattle.kasa_top.proofs.plan.mentioned_sites.Goals as goal
-use Rattle.kasa_top.proofs.plan.mentioned_sites.Goals.{then-is_named+in_ok-push, else-is_named}
+use Rattle.kasa_top.proofs.plan.mentioned_sites.Goals.{After-agent, then-mentions+in_ok-push, else-mentions}
 
-pub loop-number-init : goal.loop-number-init
-loop-number-init c = rw c.new-sites.ensures.items (IsListBelow-start (IsNamedAt c.args.rule.now.sites))
+node_typed : (c : After-agent) → IsLeftNode c.args.rule.now c.args.node c.agent.result
+node_typed c = rw c.left.ensures.pattern at c.agent.ensures
+
+pub mentions-requires : goal.mentions-requires
+mentions-requires c =
+    let has : HasSite c.args.sig.now c.agent.result c.loop-number.number = rw c.sites-number-end.ensures.counts at c.loop-number-test.true in
+    HasNodeSite-over c.args.sig.now c.args.rule.now.left c.requires.over.over.left c.args.node c.agent.result c.loop-number.number (node_typed (goal.at.mentions-requires c).After-agent) has
 
 pub loop-number-preserved : goal.loop-number-preserved
-loop-number-preserved c =
-    let same : c.deref-site-items.result.now ≡ c.args.rule.now.sites = c.deref-site-items.ensures.value ∙ ap (λ r. r.sites) c.rule.view_is in
-    let at : slice_get c.args.rule.now.sites c.loop-number.number ≡ Some c.site-item.result = element_at _ _ _ _ same c.loop-number-test.true c.site-item.is in
-    elim c.if-is_named.branch [
-      | then-is_named+in_ok-push w ↦ rw (ap (λ v. v.items) w.sites-is ∙ w.in_ok-push.ensures.items)
-          (IsListBelow-add (IsNamedAt c.args.rule.now.sites) _ _ (c.site-item.result, at, c.is_named.ensures.0 w.if-is_named.true) c.loop-number.invariant)
-      | else-is_named w ↦ rw (ap (λ v. v.items) w.sites-is)
-          (IsListBelow-skip (IsNamedAt c.args.rule.now.sites) _ _ (λ named. told_not (IsNamed c.site-item.result) _ w.if-is_named.false c.is_named.ensures.1 (IsNamed-at c.args.rule.now.sites c.loop-number.number _ at named)) c.loop-number.invariant)
-    ]
+loop-number-preserved c = elim c.if-mentions.branch [
+  | then-mentions+in_ok-push w ↦ rw (ap (λ v. v.items) w.sites-is ∙ w.in_ok-push.ensures.items)
+      (IsListBelow-add (Mentions c.args.rule.now c.args.node) _ _ (c.mentions.ensures.0 w.if-mentions.true) c.loop-number.invariant)
+  | else-mentions w ↦ rw (ap (λ v. v.items) w.sites-is)
+      (IsListBelow-skip (Mentions c.args.rule.now c.args.node) _ _ (told_not (Mentions c.args.rule.now c.args.node c.loop-number.number) _ w.if-mentions.false c.mentions.ensures.1) c.loop-number.invariant)
+]
 
 pub returns : goal.returns
 returns c =
-    let same : c.deref-site-items.result.now ≡ c.args.rule.now.sites = c.deref-site-items.ensures.value ∙ ap (λ r. r.sites) c.rule.view_is in
-    rw c.new.ensures (IsListBelow-end (IsNamedAt c.args.rule.now.sites) _ _
-    (λ s named. let within : s < length c.args.rule.now.sites = slice_get_within _ s named.0 named.1 in let done = rw same at c.loop-number-test.false in omega arith) c.loop-number.invariant)
+    let node = node_typed (goal.at.returns c).After-agent in
+    let count : c.sites-number-end.result ≡ length (state_counts c.args.sig.now c.agent.result) = c.sites-number-end.ensures.counts in
+    let all : c.sites-number-end.result ≤ c.loop-number.number = c.loop-number-test.false in
+    IsListBelow-end (Mentions c.args.rule.now c.args.node) _ _
+    (λ s mentions. let has : s < length (state_counts c.args.sig.now c.agent.result) = mentions_within c.args.sig.now c.args.rule.now c.args.node c.agent.result s c.requires.over node mentions in omega arith) c.loop-number.invariant

@@ -1,5 +1,5 @@
-use Rattle.std.proofs.Common.{◌≡◌, ◌∙◌, sym, subst, arith, string_bytes, codes, refl}
-use Rattle.kasa_top.specs.Words.{IsAnalyse, IsTextName}
+use Rattle.std.proofs.Common.{◌≡◌, ◌∙◌, sym, arith, string_bytes, codes}
+use Rattle.kasa_top.specs.Words.{IsTextName}
 use Rattle.kasa_top.proofs.WordLemmas.{is_analyse}
 use Rattle.kasa_top.proofs.program.model_name.Goals as goal
 
