@@ -17,6 +17,8 @@ mod rule;
 mod said;
 mod sides;
 mod stands;
+#[cfg(test)]
+mod tests;
 mod tried;
 mod words;
 
