@@ -5,6 +5,8 @@ mod faults;
 mod lemmas;
 mod plan;
 mod program;
+#[cfg(test)]
+mod row_tests;
 mod status;
 #[cfg(test)]
 mod tests;

@@ -35,7 +35,7 @@ const HUB: &[u8] = b"%agent: Hub(port, lock{open shut})
 'open' Hub(lock{shut/open}) @ 1
 ";
 
-const HUB_REPORT: &[u8] = b"lemmas
+pub(crate) const HUB_REPORT: &[u8] = b"lemmas
  Hub()
   Hub(port[.],lock{open}[.])
   Hub(port[nose.Cart],lock{open}[.])
@@ -45,7 +45,7 @@ const HUB_REPORT: &[u8] = b"lemmas
   Cart(nose[port.Hub])
 ";
 
-fn words(alloc: Global, texts: &[&str]) -> Result<Vec<String>, Fail> {
+pub(crate) fn words(alloc: Global, texts: &[&str]) -> Result<Vec<String>, Fail> {
     let mut words = Vec::new(alloc);
     for text in texts {
         words.push(text.to_string(alloc)?)?;
@@ -63,7 +63,7 @@ fn call(alloc: Global, words: Vec<String>, model: &[u8]) -> Result<(u8, Vec<u8>)
 }
 
 // What `analyse` answers and prints for a model.
-fn analyse(alloc: Global, model: &[u8]) -> Result<(u8, Vec<u8>), Fail> {
+pub(crate) fn analyse(alloc: Global, model: &[u8]) -> Result<(u8, Vec<u8>), Fail> {
     call(alloc, words(alloc, &["analyse", "m"])?, model)
 }
 
