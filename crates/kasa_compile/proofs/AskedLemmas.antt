@@ -1,7 +1,6 @@
 -- How a left pattern comes to ask for what its agents say.
-use Rattle.std.proofs.Common.{◌≡◌, ◌≢◌, ℕ, zero, suc, ◌<◌, inl, inr, List, [], ◌∷◌, length, map, refl, sym, ap, ◌∙◌}
-use Rattle.std.specs.Prelude.{Bool, true, false, Option, Some, None, slice_get, nat_eq, if◌then◌else◌}
-use Rattle.std.proofs.lemmas.Bool.{eqb-true, eq-eqb}
+use Rattle.std.proofs.Common.{◌≡◌, ◌≢◌, ℕ, ◌<◌, inl, inr, List, length, map, refl, sym, ap, ◌∙◌}
+use Rattle.std.specs.Prelude.{Option, Some, None, slice_get}
 use Rattle.std.proofs.lemmas.List.{length-map}
 use Rattle.std.proofs.lemmas.Option.{slice_get-map, slice_get_within}
 use Rattle.kasa_graph.specs.declared.pattern.StateTest.{StateTest}
@@ -11,10 +10,9 @@ use Rattle.kasa_graph.specs.declared.pattern.LinkTest.TheVariants as link
 use Rattle.kasa_graph.specs.declared.pattern.LinkTest.TheVariants.{To}
 use Rattle.kasa_graph.specs.declared.pattern.SiteTests.{SiteTests}
 use Rattle.kasa_graph.specs.declared.pattern.Node.{Node}
-use Rattle.kasa_graph.specs.Lists.{AllDifferent}
 use Rattle.kasa_graph.specs.Signature.{TypeEntry, state_counts, HasSite}
 use Rattle.kasa_graph.specs.Pattern.{agent_at, site_at, state_test, link_test, blank_node, with_state, with_link, with_bond, HasNodeSite, IsNoBond, IsPattern, IsPatternOver}
-use Rattle.kasa_graph.proofs.ListLemmas.{some_at, some_map, AllDifferent-tail, AllDifferent-head}
+use Rattle.kasa_graph.proofs.ListLemmas.{some_at, some_map}
 use Rattle.kasa_graph.proofs.PatternLemmas.{same_site_or_not, link_test-with_state, link_test-with_link, link_test-with_link_same, link_test-with_bond, IsPattern-with_link, IsPattern-with_bond, IsPattern-same_links}
 use Rattle.kasa_graph.proofs.TestLemmas.{agent_at-types, types_of-with_state, types_of-with_link, types_of-with_bond, types_of-blank, state_test-with_link, state_test-with_state_same, state_test-with_state_other, state_test-with_bond, link_test-with_bond_first, link_test-with_bond_second, state_test-blank, link_test-blank}
 use Rattle.kasa_graph.proofs.ShapeLemmas.{agent_at-node, node_of_agent, IsShaped-with_state, IsShaped-with_link, IsShaped-with_bond, IsShaped-blank}
@@ -26,31 +24,13 @@ use Rattle.kasa_compile.specs.Bonds.{said_at, joined_to}
 use Rattle.kasa_compile.specs.Rule.{given_state, left_state_test, left_link_test, link_asked}
 use Rattle.kasa_compile.specs.Valid.{AreSaid, AreJoined}
 use Rattle.kasa_compile.specs.Building.{Says, state_asked_at, link_asked_at, with_state_asked, with_link_asked, bond_if, IsAsking, IsAsked, IsFurther, MayAsk}
-use Rattle.kasa_compile.proofs.RuleBonds.{IsLabelled, IsJoined, is_joined, NameOnce}
+use Rattle.kasa_compile.specs.Cells.{AreNamedOnce}
+use Rattle.kasa_compile.proofs.SaidAtLemmas.{said_at-of, said_at-found}
+use Rattle.kasa_compile.proofs.RuleBonds.{IsLabelled, IsJoined, is_joined}
 
--- ---- what an agent says of a site
+-- ---- what is asked at the site that an agent names
 
-pub said_at-of : (sites : List SiteSaid) (i : ℕ) (s : SiteSaid) → AllDifferent (map (λ (x : SiteSaid). x.site) sites) → slice_get sites i ≡ Some s → said_at sites s.site ≡ Some s
-said_at-of [] i s differ is = absurd cc
-said_at-of (x ∷ sites) zero s differ is = let same : x ≡ s = cc in rw (same, eq-eqb s.site s.site refl) refl
-said_at-of (x ∷ sites) (suc i) s differ is = by_answer (nat_eq x.site s.site) refl (said_at-of sites i s (AllDifferent-tail x.site (map (λ (x : SiteSaid). x.site) sites) differ) is)
-  where
-    by_answer : (b : Bool) → nat_eq x.site s.site ≡ b → said_at sites s.site ≡ Some s → (if b then Some x else said_at sites s.site) ≡ Some s
-    by_answer true e rest =
-        let same = eqb-true x.site s.site e in
-        absurd (AllDifferent-head x.site (map (λ (x : SiteSaid). x.site) sites) i differ (slice_get-map (λ (x : SiteSaid). x.site) sites i ∙ rw (is, same) refl))
-    by_answer false e rest = rest
-
-pub said_at-found : (sites : List SiteSaid) (t : ℕ) (s : SiteSaid) → said_at sites t ≡ Some s → (i : ℕ) × (slice_get sites i ≡ Some s) × (s.site ≡ t)
-said_at-found [] t s = λ e. absurd cc
-said_at-found (x ∷ sites) t s = by_answer (nat_eq x.site t) refl (said_at-found sites t s)
-  where
-    by_answer : (b : Bool) → nat_eq x.site t ≡ b → (said_at sites t ≡ Some s → (i : ℕ) × (slice_get sites i ≡ Some s) × (s.site ≡ t)) → (if b then Some x else said_at sites t) ≡ Some s → (i : ℕ) × (slice_get (x ∷ sites) i ≡ Some s) × (s.site ≡ t)
-    by_answer true same rest e = let is : x ≡ s = cc in (zero, e, rw (← is) (eqb-true x.site t same))
-    by_answer false other rest e = let found = rest e in (suc found.0, found.1, found.2)
-
--- what is asked at the site that an agent names
-module _ (agents : List AgentSaid) (once : NameOnce agents) (n i : ℕ) (s : SiteSaid) (says : Says agents n i s) where
+module _ (agents : List AgentSaid) (once : AreNamedOnce agents) (n i : ℕ) (s : SiteSaid) (says : Says agents n i s) where
   said_there : said_at says.agent.sites s.site ≡ Some s
   said_there = said_at-of says.agent.sites i s (once n says.agent says.is_agent) says.is_site
 
@@ -62,7 +42,7 @@ module _ (agents : List AgentSaid) (once : NameOnce agents) (n i : ℕ) (s : Sit
   unfolding link_asked_at
   link_asked_at-says = rw (says.is_agent, said_there) refl
 
-pub once_said : (sig : List TypeEntry) (agents : List AgentSaid) → AreSaid sig agents → NameOnce agents
+pub once_said : (sig : List TypeEntry) (agents : List AgentSaid) → AreSaid sig agents → AreNamedOnce agents
 once_said sig agents ok k a is = (ok k a is).differ
 
 -- ---- bonds that are asked for are mutual

@@ -30,8 +30,10 @@ use Rattle.kasa_compile.specs.Bonds.{said_at, joined_to}
 use Rattle.kasa_compile.specs.Rule.{leads_to, end_at, is_free, link_to_write, link_to_make}
 use Rattle.kasa_compile.specs.Valid.{IsSiteSaid, AreSides}
 use Rattle.kasa_compile.specs.Building.{Says, right_of, link_due, link_to_put, IsLinked, CanWrite}
-use Rattle.kasa_compile.proofs.RuleBonds.{IsJoined, is_joined, NameOnce}
-use Rattle.kasa_compile.proofs.AskedLemmas.{said_at-of, once_said}
+use Rattle.kasa_compile.specs.Cells.{AreNamedOnce}
+use Rattle.kasa_compile.proofs.RuleBonds.{IsJoined, is_joined}
+use Rattle.kasa_compile.proofs.SaidAtLemmas.{said_at-of}
+use Rattle.kasa_compile.proofs.AskedLemmas.{once_said}
 
 -- ---- tests that lead to an end
 
@@ -73,7 +75,7 @@ module _ (sig : List TypeEntry) (x : SidesParts) (sides : AreSides sig x) where
 
   -- ---- the site that an agent on the right names
   module _ (k i : ℕ) (s : SiteSaid) (says : Says x.right k i s) where
-    once : NameOnce x.right
+    once : AreNamedOnce x.right
     once = once_said sig x.right sides.right
 
     there : said_at says.agent.sites s.site ≡ Some s

@@ -20,6 +20,7 @@ pub mod StepLemmas
 pub mod WrittenSite
 pub mod WrittenLoops
 pub mod BareLemmas
+pub mod EndLemmas
 pub mod FinalLemmas
 pub mod FirstLemmas
 pub mod KnownLemmas

@@ -11,6 +11,7 @@ use Rattle.kasa_compile.specs.declared.said.LinkSaid.{LinkSaid}
 use Rattle.kasa_compile.specs.declared.said.LinkSaid.TheVariants.{Any, Free, Bound, Partner, Label}
 use Rattle.kasa_compile.specs.declared.said.SiteSaid.{SiteSaid}
 use Rattle.kasa_compile.specs.declared.said.AgentSaid.{AgentSaid}
+use Rattle.kasa_compile.specs.Cells.{AreNamedOnce}
 use Rattle.kasa_compile.specs.Bonds.{has_label, labelled, labelled_from, places_of, is_same, other_of, joined_to}
 
 -- a label stands at site t of the n-th agent
@@ -22,10 +23,6 @@ pub record IsLabelled (agents : List AgentSaid) (number n t : ℕ) : Type 0 wher
   pub is_site : slice_get agent.sites index ≡ Some site
   pub named : site.site ≡ t
   pub label : site.link ≡ Some (Label number)
-
--- each agent names a site once
-abbrev pub NameOnce : List AgentSaid → Type 0
-NameOnce agents = (k : ℕ) (a : AgentSaid) → slice_get agents k ≡ Some a → AllDifferent (map (λ (s : SiteSaid). s.site) a.sites)
 
 label_of : (number : ℕ) (o : Option LinkSaid) → has_label number o ≡ true → o ≡ Some (Label number)
 label_of number None e = absurd cc
@@ -122,7 +119,7 @@ different_labelled k number (s ∷ sites) differ = by_label (has_label number s.
     by_label true later = (all_labelled k number (λ q. ◌≢◌ {A = ℕ × ℕ} (k, s.site) q) sites apart, later)
     by_label false later = later
 
-different_from : (k number : ℕ) (agents : List AgentSaid) → NameOnce agents → AreDifferent (labelled_from k number agents)
+different_from : (k number : ℕ) (agents : List AgentSaid) → AreNamedOnce agents → AreDifferent (labelled_from k number agents)
 different_from k number [] once = tt
 different_from k number (a ∷ agents) once =
     AreDifferent-append (labelled k number a.sites) (labelled_from (suc k) number agents)
@@ -206,7 +203,7 @@ from_zero agents number q h =
     let same : h.0 ≡ q.0 = omega arith in
     rw same at h.2
 
-pub is_joined : (agents : List AgentSaid) (number n t : ℕ) → NameOnce agents → length (places_of number agents) ≡ 2 → IsLabelled agents number n t → IsJoined agents number (n, t) (joined_to agents number (n, t))
+pub is_joined : (agents : List AgentSaid) (number n t : ℕ) → AreNamedOnce agents → length (places_of number agents) ≡ 2 → IsLabelled agents number n t → IsJoined agents number (n, t) (joined_to agents number (n, t))
 unfolding places_of
 is_joined agents number n t once two here =
     let other = one_of_two (labelled_from 0 number agents) (StandsFrom 0 agents number) (n, t) two (different_from 0 number agents once) (all_from 0 number agents) (among_from 0 number agents n n t (omega arith) here) in

@@ -27,7 +27,8 @@ use Rattle.kasa_compile.specs.Rule.{end_at, link_to_make}
 use Rattle.kasa_compile.specs.Building.{Says, right_of, link_due, state_due, state_open, state_now, state_to_put, with_state_due, end_before, with_free, with_link_due, MayFree, MayWrite, CanWrite, IsLater, AwaitsLink, HasLink, IsDone, AreAwaiting}
 use Rattle.kasa_compile.proofs.WriteLemmas.{HasListed-over, state_now-link, state_now-state_same, state_now-state_other, name-link, left-link, count-link, made_type-link, name-state, count-state, made_type-state, end_link-made_open, IsOpen-same}
 use Rattle.kasa_compile.proofs.DueLemmas.{right_of-end, link_due-at, HasEndSite-says, IsMutualDue, due_mutual}
-use Rattle.kasa_compile.proofs.AskedLemmas.{said_at-of, once_said}
+use Rattle.kasa_compile.proofs.SaidAtLemmas.{said_at-of}
+use Rattle.kasa_compile.proofs.AskedLemmas.{once_said}
 
 -- ---- later drafts
 

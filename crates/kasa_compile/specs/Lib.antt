@@ -3,6 +3,7 @@ pub mod Labels
 pub mod Limits
 pub mod Said
 pub mod Sides
+pub mod SidesView
 pub mod Bonds
 pub mod Complex
 pub mod Rule

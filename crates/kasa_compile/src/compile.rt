@@ -95,7 +95,7 @@ fn forward_sides(
     if let Some(fault) = form_fault(alloc, text, sig, &decl.form, pairs.as_slice())? {
         return Err(fault);
     }
-    try_sides(alloc, text, sig, pairs)
+    try_sides(alloc, text, pairs)
 }
 
 // The rule from left to right, before which so many stand, or the first fault.
@@ -135,7 +135,7 @@ fn reverse_sides(
 {
     let pairs = pairs(alloc, text, sig, &decl.form)?;
     let others = turn(alloc, pairs)?;
-    try_sides(alloc, text, sig, others)
+    try_sides(alloc, text, others)
 }
 
 // The rule from right to left behind the rule from left to right, before which so many stand, or the first fault.

@@ -2,48 +2,36 @@
 ghost use Rattle.std.specs.Prelude.{◌≡◌, List, Some, slice_get};
 ghost use Rattle.kasa_graph.specs.Signature.{TypeEntry};
 ghost use Rattle.kasa_compile.specs.declared.said.AgentSaid.{AgentSaid as Said};
-ghost use Rattle.kasa_compile.specs.Causes.{link_at, is_touched, half_bonds_of, half_bonds};
+ghost use Rattle.kasa_compile.specs.Causes.{is_touched, half_bonds_of, half_bonds};
 ghost use Rattle.kasa_compile.specs.Rule.{link_asked, leads_to};
 ghost use Rattle.kasa_compile.specs.Joints.{AreJointsOf};
+ghost use Rattle.kasa_compile.specs.SidesView.{end_of};
 ghost use Rattle.kasa_compile.specs.Touched.{IsPaired, LeadsToEnd, is_link_new, is_half_bond};
 ghost use Rattle.kasa_compile.specs.Valid.{AreSides};
 
 use crate::joints::{Joints, label_of, sites_of};
+use crate::pairs::link_at;
 use crate::said::{AgentSaid, LinkSaid, SiteSaid};
-use crate::sides::Sides;
-use kasa_graph::Signature;
+use crate::sides::{Origin, Sides};
 use kasa_num::SiteNo;
-use kasa_rules::End;
 
-// The link that a site of a number has among some sites.
-fn link_at(sites: &[SiteSaid], number: SiteNo) -> Option<LinkSaid>
-    ensures { result ≡ link_at sites.now number }
-{
-    for site in sites {
-        if site.site == number {
-            return site.link;
-        }
-    }
-    None
-}
-
-// The left link of a site leads to this end and site.
+// The left link of a site leads to this agent's site.
 fn leads_to(
     joints: &Joints,
     place: (usize, SiteNo),
     link: Option<LinkSaid>,
-    end: End,
+    origin: Origin,
     site: SiteNo,
 ) -> bool
-    ensures { (agents : List Said) → AreJointsOf agents joints.now → IsPaired agents link → result ≡ leads_to (link_asked agents place link) «end» site }
+    ensures { (agents : List Said) → AreJointsOf agents joints.now → IsPaired agents link → result ≡ leads_to (link_asked agents place link) (end_of origin) site }
 {
     let Some(number) = label_of(link) else {
         return false;
     };
     let (other, there) = joints.joined_to(number, place);
-    match end {
-        End::Left(node) => node.0 as usize == other && there == site,
-        End::Made(_) => false,
+    match origin {
+        Origin::Left(n) => n == other && there == site,
+        Origin::Made(_) => false,
     }
 }
 
@@ -68,8 +56,7 @@ fn is_link_new(
         Some(LinkSaid::Free) => !matches!(from, Some(LinkSaid::Free)),
         Some(LinkSaid::Label(number)) => {
             let (other, there) = right.joined_to(number, after);
-            let ends = &sides.ends;
-            !leads_to(left, place, from, ends[other], there)
+            !leads_to(left, place, from, sides.origin(other), there)
         }
         _ => false,
     }
@@ -137,13 +124,12 @@ fn half_bond_of(
 }
 
 /// The offset of the first site that isn't touched, although its bond's other end is.
-pub fn half_bond(sig: &Signature, sides: &Sides, left: &Joints, right: &Joints) -> Option<u32>
-    requires sides { AreSides sig.now sides.now }
+pub fn half_bond(sides: &Sides, left: &Joints, right: &Joints) -> Option<u32>
+    requires known { (sig : List TypeEntry) × AreSides sig sides.now }
     requires left_joints { AreJointsOf sides.now.left left.now }
     requires right_joints { AreJointsOf sides.now.right right.now }
     ensures { result ≡ slice_get (half_bonds sides.now) 0 }
 {
-    let _ = sig;
     for (n, agent) in sides.left.iter().enumerate() {
         let at = half_bond_of(sides, left, right, n, agent);
         if at.is_some() {

@@ -406,8 +406,8 @@ fn is_same_link(left: Option<LinkSaid>, right: LinkSaid) -> bool
     }
 }
 
-// The link that a site of a number has among some sites.
-fn link_at(sites: &[SiteSaid], number: SiteNo) -> Option<LinkSaid>
+/// The link that a site of a number has among some sites.
+pub fn link_at(sites: &[SiteSaid], number: SiteNo) -> Option<LinkSaid>
     ensures { result ≡ link_at sites.now number }
 {
     for site in sites {

@@ -14,11 +14,12 @@ ghost use Rattle.kasa_compile.specs.Building.{Says, with_state_asked, with_link_
 ghost use Rattle.kasa_compile.specs.Causes.{half_bonds};
 ghost use Rattle.kasa_compile.specs.Joints.{AreJointsOf};
 ghost use Rattle.kasa_compile.specs.Rule.{link_asked, left_state_test, left_link_test, is_state, end_at, leads_to, link_to_write, link_to_make, IsRuleOf};
+ghost use Rattle.kasa_compile.specs.SidesView.{HasShortEnds};
 ghost use Rattle.kasa_compile.specs.Valid.{AreSaid, AreJoined, AreSides};
 
 use crate::joints::Joints;
 use crate::said::{AgentSaid, LinkSaid, SiteSaid};
-use crate::sides::Sides;
+use crate::sides::{Origin, Sides};
 use kasa_graph::{LinkTest, Pattern, Signature, StateTest};
 use kasa_num::{AgentType, NoMemory, NodeNo, SiteNo, StateNo};
 use kasa_rules::{End, Rule, RuleDraft, Written};
@@ -161,12 +162,12 @@ fn left_pattern(
 // The end and the site that a label on the right joins to the one at which it stands.
 fn joined_end(sides: &Sides, joints: &Joints, place: (usize, SiteNo), number: u16) -> (End, SiteNo)
     requires indexed { AreJointsOf sides.now.right joints.now }
+    requires short { HasShortEnds sides.now }
     requires linked { IsLinked sides.now place number }
     ensures { let q = joined_to sides.now.right number place in result ≡ (end_at sides.now.ends q.0, q.1) }
 {
     let (other, site) = joints.joined_to(number, place);
-    let ends = &sides.ends;
-    (ends[other], site)
+    (end_of(sides, other), site)
 }
 
 // The link test leads to this end and site.
@@ -191,6 +192,7 @@ fn kept_link(
     said: &SiteSaid,
 ) -> Option<Written>
     requires indexed { AreJointsOf sides.now.right joints.now }
+    requires short { HasShortEnds sides.now }
     requires linked { (number : ℕ) → said.now.link ≡ Some (Link.Label number) → IsLinked sides.now (k, said.now.site) number }
     ensures { result ≡ link_to_write sides.now (k, said.now.site) test said.now.link }
 {
@@ -214,6 +216,7 @@ fn kept_link(
 // The link that the k-th agent on the right, which is created, has at a site.
 fn made_link(sides: &Sides, joints: &Joints, k: usize, said: &SiteSaid) -> Written
     requires indexed { AreJointsOf sides.now.right joints.now }
+    requires short { HasShortEnds sides.now }
     requires linked { (number : ℕ) → said.now.link ≡ Some (Link.Label number) → IsLinked sides.now (k, said.now.site) number }
     ensures { result ≡ link_to_make sides.now (k, said.now.site) said.now.link }
 {
@@ -236,6 +239,7 @@ fn link_due(
     said: &SiteSaid,
 ) -> Option<Written>
     requires indexed { AreJointsOf sides.now.right joints.now }
+    requires short { HasShortEnds sides.now }
     requires linked { (number : ℕ) → said.now.link ≡ Some (Link.Label number) → IsLinked sides.now (k, said.now.site) number }
     requires exists { (n : ℕ) → «end».now ≡ End.Left n → HasNodeSite left.now n said.now.site }
     ensures { result ≡ link_to_put sides.now left.now «end».now k said.now }
@@ -359,11 +363,14 @@ fn put_link_due(draft: &mut RuleDraft, end: &End, site: SiteNo, link: Option<Wri
 
 // What the k-th agent on the right is in the rule.
 fn end_of(sides: &Sides, k: usize) -> End
-    requires { k < length sides.now.ends }
+    requires within { k < length sides.now.ends }
+    requires short { HasShortEnds sides.now }
     ensures { result ≡ end_at sides.now.ends k }
 {
-    let ends = &sides.ends;
-    ends[k]
+    match sides.origin(k) {
+        Origin::Left(n) => End::Left(NodeNo(n as u16)),
+        Origin::Made(j) => End::Made(j as u16),
+    }
 }
 
 // A site that the k-th agent on the right names.
@@ -395,6 +402,7 @@ fn write_site(
     i: usize,
 )
     requires indexed { AreJointsOf sides.now.right joints.now }
+    requires short { HasShortEnds sides.now }
     requires can { (sig : List TypeEntry) × CanWrite sig sides.now left.now draft.old }
     requires waits { AreAwaiting sides.now left.now draft.old k i }
     requires stands { (s : Site) × Says sides.now.right k i s }
@@ -414,6 +422,7 @@ fn write_site(
 // Writes what the sites that the k-th agent on the right names give.
 fn write_sites(draft: &mut RuleDraft, sides: &Sides, joints: &Joints, left: &Pattern, k: usize)
     requires indexed { AreJointsOf sides.now.right joints.now }
+    requires short { HasShortEnds sides.now }
     requires can { (sig : List TypeEntry) × CanWrite sig sides.now left.now draft.old }
     requires waits { AreAwaiting sides.now left.now draft.old k 0 }
     requires stands { k < length sides.now.right }
@@ -430,6 +439,7 @@ fn write_sites(draft: &mut RuleDraft, sides: &Sides, joints: &Joints, left: &Pat
 // Writes what all agents on the right give.
 fn write_all(draft: &mut RuleDraft, sides: &Sides, joints: &Joints, left: &Pattern)
     requires indexed { AreJointsOf sides.now.right joints.now }
+    requires short { HasShortEnds sides.now }
     requires can { (sig : List TypeEntry) × CanWrite sig sides.now left.now draft.old }
     requires waits { AreAwaiting sides.now left.now draft.old 0 0 }
     ensures over { (sig : List TypeEntry) → IsDraftOver sig draft.old → IsDraftOver sig draft.new }

@@ -1,5 +1,6 @@
 // Texts and their models.
 mod equal;
+mod parts;
 mod refused;
 
 use crate::{CompileFault, ModelFault, read_model};
@@ -17,6 +18,15 @@ use std::test::Fail;
 fn read(alloc: Global, rt: &impl Abort, text: &[u8]) -> Result<Model, ModelFault> {
     assert!(rt; text.len() <= 4_194_304);
     read_model(alloc, text)
+}
+
+// The model of a text that has one.
+fn model_of(alloc: Global, rt: &impl Abort, text: &[u8]) -> Result<Model, Fail> {
+    match read(alloc, rt, text) {
+        Ok(model) => Ok(model),
+        Err(ModelFault::NoMemory) => Err(Fail::from("no memory")),
+        Err(_) => Err(Fail::from("refused")),
+    }
 }
 
 // The cause of a fault and its place.

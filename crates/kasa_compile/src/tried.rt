@@ -1,5 +1,6 @@
 // Inits and rules, tried for each cause in order.
-ghost use Rattle.std.specs.Prelude.{◌≡◌, ◌≢◌, ◌≤◌, ◌++◌, Some, length, IfOk, IfErr};
+ghost use Rattle.std.specs.Prelude.{◌≡◌, ◌≢◌, ◌≤◌, ◌++◌, List, Some, length, IfOk, IfErr};
+ghost use Rattle.kasa_graph.specs.Signature.{TypeEntry};
 ghost use Rattle.kasa_syntax.specs.Place.{place_at};
 ghost use Rattle.kasa_compile.specs.declared.fault.CompileFault.TheVariants.{NoMemory as no_memory};
 ghost use Rattle.kasa_compile.specs.Sides.{sides_of};
@@ -175,23 +176,18 @@ pub fn form_fault(
 }
 
 /// The sides of a rule, or the first fault that they show.
-pub fn try_sides(
-    alloc: Global,
-    text: &[u8],
-    sig: &Signature,
-    pairs: Vec<Pair>,
-) -> Result<Tried, CompileFault>
+pub fn try_sides(alloc: Global, text: &[u8], pairs: Vec<Pair>) -> Result<Tried, CompileFault>
     requires few { length text.now ≤ 4194304 }
-    requires sides { AreSides sig.now (sides_of pairs.items) }
+    requires known { (sig : List TypeEntry) × AreSides sig (sides_of pairs.items) }
     ensures tried { IfOk result (λ tried. AreTried pairs.items tried) }
-    ensures sides { IfOk result (λ tried. AreSides sig.now tried.sides) }
+    ensures sides { (sig : List TypeEntry) → AreSides sig (sides_of pairs.items) → IfOk result (λ tried. AreSides sig tried.sides) }
     ensures fault { IfErr result (λ fault. fault ≢ no_memory → first_of text.now (sides_causes pairs.items) ≡ Some fault) }
 {
     let bad = bad_right(pairs.as_slice());
     let sides = Sides::of(alloc, pairs)?;
     let left = Joints::of(alloc, sides.left.as_slice())?;
     let right = Joints::of(alloc, sides.right.as_slice())?;
-    if let Some(at) = half_bond(sig, &sides, &left, &right) {
+    if let Some(at) = half_bond(&sides, &left, &right) {
         return Err(CompileFault::HalfBond(place(text, at)));
     }
     if let Some(at) = bad {

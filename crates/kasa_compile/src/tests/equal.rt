@@ -1,20 +1,10 @@
 // Texts that have equal models.
-use super::{HUB, join, read};
-use crate::ModelFault;
+use super::{HUB, join, model_of};
 use kasa_num::AgentType;
 use kasa_rules::Model;
 use std::alloc::Global;
 use std::process::Abort;
 use std::test::Fail;
-
-// The model of a text that has one.
-fn model_of(alloc: Global, rt: &impl Abort, text: &[u8]) -> Result<Model, Fail> {
-    match read(alloc, rt, text) {
-        Ok(model) => Ok(model),
-        Err(ModelFault::NoMemory) => Err(Fail::from("no memory")),
-        Err(_) => Err(Fail::from("refused")),
-    }
-}
 
 // The hub with CR LF, a comment that isn't ASCII and no declarations of its agents.
 const INFERRED: &[u8] = b"// Gr\xc3\xb6\xc3\x9fe\r

@@ -305,6 +305,18 @@ fn repeat(alloc: Global, what: Repeated) -> Result<Vec<u8>, Fail> {
     Ok(text)
 }
 
+fn check_repeated(
+    alloc: Global,
+    rt: &impl Abort,
+    what: Repeated,
+    wanted: &[u8],
+) -> Result<(), Fail> {
+    let text = repeat(alloc, what)?;
+    let got = outcome(alloc, rt, text.as_slice())?;
+    assert!(rt; got.as_slice() == wanted, "{got:?}");
+    Ok(())
+}
+
 // So many inits, or so many rules, before a last declaration.
 fn many(word: &'static [u8], times: usize, tail: &'static [u8]) -> Repeated {
     Repeated {
@@ -338,9 +350,56 @@ fn inits_and_rules_keep_to_their_limits(rt: HostRuntime) -> Result<(), Fail> {
         (many(b"A()\n", 1998, b"A() <-> ."), b"ok"),
         (many(b"A()\n", 1999, b"A() <-> ."), b"TooManyRules 2000:1"),
     ] {
-        let text = repeat(rt.alloc(), what)?;
-        let got = outcome(rt.alloc(), &rt, text.as_slice())?;
-        assert!(rt; got.as_slice() == wanted, "{got:?}");
+        check_repeated(rt.alloc(), &rt, what, wanted)?;
+    }
+    Ok(())
+}
+
+// A rule over the type `A(x)` with 65,537 agents and some more: 16 bits can't number them.
+fn wide(head: &'static [u8], tail: &'static [u8]) -> Repeated {
+    Repeated {
+        head,
+        word: b"A() ",
+        times: 65_537,
+        tail,
+    }
+}
+
+#[test]
+fn wide_rules_that_keep_agents_are_refused_at_their_first_fault(
+    rt: HostRuntime,
+) -> Result<(), Fail> {
+    for (what, wanted) in [
+        // The bond between the first and the last agent isn't touched.
+        (
+            wide(b"%agent: A(x)\nA(x[1]),", b"A(x[1])"),
+            b"TooManyNodes 2:53".as_slice(),
+        ),
+        (
+            wide(b"%agent: A(x)\n", b"A(x[1/.]),A(x[1/#])"),
+            b"HalfBond 2:262161",
+        ),
+    ] {
+        check_repeated(rt.alloc(), &rt, what, wanted)?;
+    }
+    Ok(())
+}
+
+#[test]
+fn wide_rules_that_create_agents_are_refused_at_their_first_fault(
+    rt: HostRuntime,
+) -> Result<(), Fail> {
+    for (what, wanted) in [
+        (
+            wide(b"%agent: A(x)\n. -> ", b"A(),C()"),
+            b"UnknownType 2:262158".as_slice(),
+        ),
+        (
+            wide(b"%agent: A(x)\n. -> ", b"A(x[_])"),
+            b"BadRight 2:262156",
+        ),
+    ] {
+        check_repeated(rt.alloc(), &rt, what, wanted)?;
     }
     Ok(())
 }

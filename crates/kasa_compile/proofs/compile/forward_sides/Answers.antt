@@ -15,10 +15,15 @@ returns-in-Some-clause-fault c different count =
     let shown = subst (λ (ps : List Pair). c.in_ok-fault.field-0 ≡ first_of c.args.text.now (name_causes c.args.text.now c.args.sig.now (agents_of_form c.args.decl.now.form) ++ form_causes c.args.decl.now.form ps)) (c.as_slice.ensures.value ∙ c.in_ok-pairs.ensures) c.in_ok-fault.ensures in
     sym (some_first c.args.text.now (name_causes c.args.text.now c.args.sig.now (agents_of_form c.args.decl.now.form) ++ form_causes c.args.decl.now.form (pairs_of c.args.text.now c.args.sig.now c.args.decl.now.form)) (sides_causes (pairs_of c.args.text.now c.args.sig.now c.args.decl.now.form) ++ limit_causes c.args.decl.now.form count c.args.decl.now.start.start) c.in-Some.fault (sym c.in-Some.is ∙ shown))
 
-pub try_sides-requires-clause-sides : goal.try_sides-requires-clause-sides
-try_sides-requires-clause-sides c =
+pub try_sides-requires-clause-known : goal.try_sides-requires-clause-known
+try_sides-requires-clause-known c =
     let shown = subst (λ (ps : List Pair). c.in_ok-fault.field-0 ≡ first_of c.args.text.now (name_causes c.args.text.now c.args.sig.now (agents_of_form c.args.decl.now.form) ++ form_causes c.args.decl.now.form ps)) (c.as_slice.ensures.value ∙ c.in_ok-pairs.ensures) c.in_ok-fault.ensures in
-    subst (λ (ps : List Pair). AreSides c.args.sig.now (sides_of ps)) (sym c.in_ok-pairs.ensures) (sides_valid c.args.text.now c.args.sig.now c.args.decl.now.form (sym c.in_default.is ∙ shown)).0
+    (c.args.sig.now, subst (λ (ps : List Pair). AreSides c.args.sig.now (sides_of ps)) (sym c.in_ok-pairs.ensures) (sides_valid c.args.text.now c.args.sig.now c.args.decl.now.form (sym c.in_default.is ∙ shown)).0)
+
+pub returns-clause-sides : goal.returns-clause-sides
+returns-clause-sides c =
+    let shown = subst (λ (ps : List Pair). c.in_ok-fault.field-0 ≡ first_of c.args.text.now (name_causes c.args.text.now c.args.sig.now (agents_of_form c.args.decl.now.form) ++ form_causes c.args.decl.now.form ps)) (c.as_slice.ensures.value ∙ c.in_ok-pairs.ensures) c.in_ok-fault.ensures in
+    c.try_sides.ensures.sides c.args.sig.now (subst (λ (ps : List Pair). AreSides c.args.sig.now (sides_of ps)) (sym c.in_ok-pairs.ensures) (sides_valid c.args.text.now c.args.sig.now c.args.decl.now.form (sym c.in_default.is ∙ shown)).0)
 
 pub returns-clause-faultless : goal.returns-clause-faultless
 returns-clause-faultless c =

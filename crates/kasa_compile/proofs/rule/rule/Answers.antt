@@ -13,6 +13,7 @@ use Rattle.kasa_compile.specs.Rule.{left_state_test, left_link_test, end_at, IsR
 use Rattle.kasa_compile.specs.Valid.{AreSides}
 use Rattle.kasa_compile.specs.Building.{Says, IsBare, CanWrite, IsLater, IsDone}
 use Rattle.kasa_compile.proofs.BareLemmas.{CanWrite-bare, AreAwaiting-bare}
+use Rattle.kasa_compile.proofs.EndLemmas.{HasShortEnds-few}
 use Rattle.kasa_compile.proofs.StepLemmas.{CanWrite-later}
 use Rattle.kasa_compile.proofs.FinalLemmas.{IsRuleOf-done, HasWholeBonds-done}
 use Rattle.kasa_compile.proofs.rule.rule.Goals as goal
@@ -30,6 +31,9 @@ module _ (sig : List TypeEntry) (x : SidesParts) (sides : AreSides sig x) (name 
 
     is_rule : IsRuleOver sig r → ((n s : ℕ) (a : Said) → slice_get agents n ≡ Some a → state_test g n s ≡ left_state_test (said_at a.sites s)) → IsRuleOf sig name x r
     is_rule over_rule states = IsRuleOf-done sig x name g r0 r bare can_all (later can_bare) (done can_bare) over_rule (rw same at states) (rw same at links)
+
+pub write_all-requires-clause-short : goal.write_all-requires-clause-short
+write_all-requires-clause-short c = HasShortEnds-few c.args.sig.now c.args.sides.now c.requires.sides c.requires.few_left c.requires.few_right
 
 pub write_all-requires-clause-can : goal.write_all-requires-clause-can
 write_all-requires-clause-can c =

@@ -4,8 +4,8 @@ use Rattle.kasa_compile.proofs.DueLemmas.{IsLinked-says}
 use Rattle.kasa_compile.proofs.WrittenSite.{end_within, site_exists, node_exists, state_known, site_exists_after, may_write, later_site, waits_site, done_site}
 use Rattle.kasa_compile.proofs.rule.write_site.Goals as goal
 
-pub end_of-end-requires : goal.end_of-end-requires
-end_of-end-requires c = let can = c.requires.can in end_within can.0 c.args.sides.now c.args.left.now c.args.draft.now can.1 c.args.k c.args.i c.right_said-said.result c.right_said-said.ensures
+pub end_of-end-requires-clause-within : goal.end_of-end-requires-clause-within
+end_of-end-requires-clause-within c = let can = c.requires.can in end_within can.0 c.args.sides.now c.args.left.now c.args.draft.now can.1 c.args.k c.args.i c.right_said-said.result c.right_said-said.ensures
 
 pub state_due-state-requires : goal.state_due-state-requires
 state_due-state-requires c = record {

@@ -4,9 +4,13 @@ use Rattle.kasa_compile.specs.declared.said.Pair.{Pair}
 use Rattle.kasa_compile.specs.declared.fault.CompileFault.TheVariants.{HalfBond, BadRight}
 use Rattle.kasa_compile.specs.Sides.{SidesParts, sides_of}
 use Rattle.kasa_compile.specs.Joints.{AreJointsOf}
+use Rattle.kasa_compile.specs.Valid.{AreSides}
 use Rattle.kasa_compile.specs.Causes.{half_bonds, bad_rights}
 use Rattle.kasa_compile.proofs.CauseLemmas.{none_found, passed, stopped}
 use Rattle.kasa_compile.proofs.tried.try_sides.Goals as goal
+
+pub half_bond-requires-clause-known : goal.half_bond-requires-clause-known
+half_bond-requires-clause-known c = let known = c.requires.known in (known.0, subst (λ (x : SidesParts). AreSides known.0 x) (sym c.in_ok-sides.ensures) known.1)
 
 pub returns-in-Some-clause-fault : goal.returns-in-Some-clause-fault
 returns-in-Some-clause-fault c different =
@@ -25,3 +29,6 @@ returns-clause-tried c = record {
   whole = none_found (half_bonds c.in_ok-sides.sides) (sym c.in_default.is ∙ c.half_bond.ensures);
   good = none_found (bad_rights c.args.pairs.items) (sym c.in_default-bad.is ∙ subst (λ (pairs : List Pair). c.bad_right-bad.result ≡ slice_get (bad_rights pairs) 0) c.as_slice.ensures.value c.bad_right-bad.ensures);
 }
+
+pub returns-clause-sides : goal.returns-clause-sides
+returns-clause-sides c = λ sig are. subst (λ (x : SidesParts). AreSides sig x) (sym c.in_ok-sides.ensures) are
