@@ -2,5 +2,7 @@ pub mod CountLemmas
 pub mod GrowLemmas
 pub mod TableRows
 pub mod StepLemmas
+pub mod SettledLemmas
+pub mod NamesLemmas
 pub mod LoopLemmas
 pub mod SolveLemmas

@@ -14,7 +14,7 @@ use Rattle.kasa_fixpoint.specs.Growing.{HasGrown}
 use Rattle.kasa_fixpoint.specs.Steps.{IsStep, HoldsOccurring}
 use Rattle.kasa_fixpoint.proofs.TableRows.{IsWithin-rows}
 
-one_more : (n : ℕ) (P : ℕ → Type 0) → ((k : ℕ) → k < n → P k) → P n → (k : ℕ) → k < n + 1 → P k
+pub one_more : (n : ℕ) (P : ℕ → Type 0) → ((k : ℕ) → k < n → P k) → P n → (k : ℕ) → k < n + 1 → P k
 one_more n P before here k below = elim (same_or_not k n) [
   | inl e ↦ rw e here
   | inr ne ↦ before k (omega (arith, ne))

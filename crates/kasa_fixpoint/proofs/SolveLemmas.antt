@@ -3,14 +3,12 @@ use Rattle.std.proofs.Common.{◌≡◌, ℕ, zero, suc, ◌≤◌, inl, inr, Li
 use Rattle.std.specs.Prelude.{Option, Some, slice_get}
 use Rattle.kasa_graph.specs.declared.mixture.Agent.{Agent}
 use Rattle.kasa_graph.specs.Lists.{Has, AllDifferent}
-use Rattle.kasa_graph.specs.Signature.{TypeEntry}
 use Rattle.kasa_graph.specs.Embedding.{IsEmbedding}
 use Rattle.kasa_graph.proofs.ListLemmas.{AllDifferent-[]}
 use Rattle.kasa_families.specs.declared.family.Family.{Family}
 use Rattle.kasa_families.specs.declared.row.Row.{Row}
 use Rattle.kasa_families.specs.Family.{IsFamily}
 use Rattle.kasa_families.specs.Table.{Table, AreTables, families_of, rows_of}
-use Rattle.kasa_families.proofs.TableLemmas.{family_at, rows_of-some}
 use Rattle.kasa_rules.specs.declared.model.Model.{Model}
 use Rattle.kasa_rules.specs.Rule.{RuleParts}
 use Rattle.kasa_rules.specs.Reached.{Reached, IsModel}
@@ -20,7 +18,7 @@ use Rattle.kasa_pre.specs.Closed.{IsClosed, IsLeast, LemmaHolds, Cover}
 use Rattle.kasa_pre.proofs.StepLemmas.{never-dead, LemmaHolds-cover}
 use Rattle.kasa_pre.proofs.SoundLemmas.{Cover-reached}
 use Rattle.kasa_tables.specs.Insert.{empty_tables}
-use Rattle.kasa_tables.proofs.PlainLemmas.{families_of-empty, row_count-empty}
+use Rattle.kasa_tables.proofs.PlainLemmas.{families_of-empty, row_count-empty, AreTables-empty}
 use Rattle.kasa_views.specs.View.{IsView}
 use Rattle.kasa_fixpoint.specs.declared.growing.Growing.{Growing}
 use Rattle.kasa_fixpoint.specs.Limit.{PassesLimit}
@@ -38,15 +36,6 @@ rows_of-empty (family ∷ families) (suc k) = rows_of-empty families k
 
 no_row : (families : List Family) (k : ℕ) (row : Row) → ¬ Has (rows_of (empty_tables families) k) row
 no_row families k row has = let none : slice_get [] has.0 ≡ Some row = rw (rows_of-empty families k) at has.1 in cc
-
-module _ (sig : List TypeEntry) (families : List Family) (different : AllDifferent families) (valid : (family : Family) → Has families family → IsFamily sig family) where
-  AreTables-empty : AreTables sig (empty_tables families)
-  AreTables-empty = record {
-    different = rw (families_of-empty families) different;
-    families = λ t has. valid t.family (has.0, rw (families_of-empty families) at (family_at (empty_tables families) has.0 t (sym has.1)));
-    rows_differ = λ t has. rw (← rows_of-some (empty_tables families) has.0 t (sym has.1), rows_of-empty families has.0) AllDifferent-[];
-    rows = λ t has row among. absurd (no_row families has.0 row (rw (rows_of-some (empty_tables families) has.0 t (sym has.1)) among));
-  }
 
 -- tables without rows, where nothing is inserted yet
 pub IsUnderWay-empty : (model : Model) (families : List Family) (most : ℕ) → AllDifferent families → ((family : Family) → Has families family → IsFamily model.sig family) → ((family : Family) → Has families family → IsView family) → most ≤ 200000 → IsUnderWay model (record { tables = empty_tables families; room = most; most = most })

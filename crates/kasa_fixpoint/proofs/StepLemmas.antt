@@ -13,7 +13,7 @@ use Rattle.kasa_families.specs.Pattern.{Occurs}
 use Rattle.kasa_families.specs.Table.{Table, AreTables, families_of, rows_of, HasShape, Holds, IsWithin}
 use Rattle.kasa_rules.specs.declared.model.Model.{Model}
 use Rattle.kasa_rules.specs.Rule.{RuleParts}
-use Rattle.kasa_views.specs.Results.{AreResults}
+use Rattle.kasa_views.specs.Results.{IsResult}
 use Rattle.kasa_views.proofs.ComesLemmas.{length-locals}
 use Rattle.kasa_pre.specs.Closed.{IsYielded, IsClosed}
 use Rattle.kasa_pre.proofs.AllowedLemmas.{IsAllowed-within}
@@ -92,9 +92,9 @@ module _ (model : Model) (old : Growing) (under_way : IsUnderWay model old) (f :
 -- ---- what is due
 
 -- rows that a rule yields
-pub AreDue-results : (model : Model) (tables : List Table) (r : RuleParts) (f most : ℕ) (family : Family) (rows : List Row) → Has model.rules r → slice_get (families_of tables) f ≡ Some family → AreResults model.sig tables r f most rows → AreDue model tables family rows
-AreDue-results model tables r f most family rows rule named are row has =
-    let result = are.results row has in
+pub AreDue-results : (model : Model) (tables : List Table) (r : RuleParts) (f : ℕ) (family : Family) (rows : List Row) → Has model.rules r → slice_get (families_of tables) f ≡ Some family → ((row : Row) → Has rows row → IsResult model.sig tables r f row) → AreDue model tables family rows
+AreDue-results model tables r f family rows rule named are row has =
+    let result = are row has in
     let same : result.family ≡ family = let e = result.numbered in cc in
     (rw same at result.valid, inr (rule.0, r, rule.1, rw same at result.yielded))
 

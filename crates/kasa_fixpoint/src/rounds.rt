@@ -1,21 +1,23 @@
 // The least closed tables, in rounds over all rules and families.
-ghost use Rattle.std.specs.Prelude.{◌≡◌, ◌≤◌, ◌<◌, ◌↔◌, ℕ, List, Option, Some, false, length, slice_get, Err, IfOk};
+ghost use Rattle.std.specs.Prelude.{◌≡◌, ◌≤◌, ◌<◌, ◌↔◌, ℕ, List, Option, Some, false, length, slice_get, Err, IsTrue, IfOk};
 ghost use Rattle.kasa_graph.specs.declared.mixture.Agent.{Agent};
 ghost use Rattle.kasa_graph.specs.Lists.{Has, AllDifferent};
 ghost use Rattle.kasa_graph.specs.Embedding.{IsEmbedding};
 ghost use Rattle.kasa_families.specs.declared.family.Family.{Family};
 ghost use Rattle.kasa_families.specs.Family.{IsFamily};
 ghost use Rattle.kasa_families.specs.Table.{AreTables, families_of};
-ghost use Rattle.kasa_rules.specs.Rule.{RuleParts};
+ghost use Rattle.kasa_rules.specs.Rule.{RuleParts, IsRuleOver};
 ghost use Rattle.kasa_rules.specs.Reached.{Reached};
 ghost use Rattle.kasa_pre.specs.Allowed.{IsDead};
 ghost use Rattle.kasa_pre.specs.Closed.{IsClosed, IsLeast, LemmaHolds, Cover};
 ghost use Rattle.kasa_views.specs.View.{IsView};
 ghost use Rattle.kasa_fixpoint.specs.declared.fault.SolveFault.TheVariants.{TooManyRows as too_many_rows};
 ghost use Rattle.kasa_fixpoint.specs.Limit.{PassesLimit};
+ghost use Rattle.kasa_fixpoint.specs.Acts.{TouchesOpen};
 ghost use Rattle.kasa_fixpoint.specs.Growing.{HasGrown};
 ghost use Rattle.kasa_fixpoint.specs.Steps.{IsUnderWay, IsStep, HoldsOccurring, HaveResults};
 
+use crate::acts::{names_type_of, touches_open};
 use crate::fault::SolveFault;
 use crate::growing::Growing;
 use kasa_families::{Family, Rows};
@@ -23,7 +25,7 @@ use kasa_graph::Mixture;
 use kasa_num::FamilyNo;
 use kasa_rules::{Model, Rule};
 use kasa_tables::PlainTables;
-use kasa_views::{initial, results};
+use kasa_views::{initial, new_results};
 use std::alloc::Global;
 
 const MOST_ROWS: usize = 200_000;
@@ -162,6 +164,7 @@ fn round(alloc: Global, model: &Model, growing: &mut Growing) -> Result<bool, So
     Ok(grew)
 }
 
+// Inserts what a rule yields. Whether a row is new.
 fn apply(
     alloc: Global,
     model: &Model,
@@ -176,15 +179,44 @@ fn apply(
     ensures too_many { result ≡ Err too_many_rows → PassesLimit growing.old.most model.now (families_of growing.old.tables) }
 {
     let mut grew = false;
+    let anywhere = touches_open(&model.sig, rule);
     let families = growing.tables.families();
     for f in 0..families {
-        grew |= apply_to(alloc, model, rule, FamilyNo(f as u16), growing)?;
+        grew |= apply_to(alloc, model, rule, anywhere, FamilyNo(f as u16), growing)?;
     }
     Ok(grew)
 }
 
-// Inserts what the rule yields of one family.
+// Inserts what the rule yields of one family, where it can change the family at all.
 fn apply_to(
+    alloc: Global,
+    model: &Model,
+    rule: &Rule,
+    anywhere: bool,
+    f: FamilyNo,
+    growing: &mut Growing,
+) -> Result<bool, SolveFault>
+    requires under_way { IsUnderWay model.now growing.old }
+    requires rule { Has model.now.rules rule.now }
+    requires over { IsRuleOver model.now.sig rule.now }
+    requires anywhere { TouchesOpen rule.now → IsTrue anywhere }
+    requires family { f < length growing.old.tables }
+    ensures step { IfOk result (λ _. IsStep model.now growing.old growing.new) }
+    ensures grown { IfOk result (λ grew. HasGrown growing.old growing.new grew) }
+    ensures settled { IfOk result (λ grew. grew ≡ false → HaveResults model.now.sig growing.new.tables rule.now f) }
+    ensures too_many { result ≡ Err too_many_rows → PassesLimit growing.old.most model.now (families_of growing.old.tables) }
+{
+    let Some(family) = growing.tables.family(f) else {
+        return Ok(false);
+    };
+    if !anywhere && !names_type_of(rule, family) {
+        return Ok(false);
+    }
+    insert_results(alloc, model, rule, f, growing)
+}
+
+// Inserts the rows that the rule yields of one family.
+fn insert_results(
     alloc: Global,
     model: &Model,
     rule: &Rule,
@@ -199,7 +231,7 @@ fn apply_to(
     ensures settled { IfOk result (λ grew. grew ≡ false → HaveResults model.now.sig growing.new.tables rule.now f) }
     ensures too_many { result ≡ Err too_many_rows → PassesLimit growing.old.most model.now (families_of growing.old.tables) }
 {
-    let rows = results(alloc, &model.sig, &growing.tables, rule, f, growing.most)?;
+    let rows = new_results(alloc, &model.sig, &growing.tables, rule, f, growing.most)?;
     if rows.len() > growing.most {
         return Err(SolveFault::TooManyRows);
     }

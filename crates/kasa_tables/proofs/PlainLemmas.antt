@@ -8,9 +8,10 @@ use Rattle.kasa_graph.proofs.ListLemmas.{same_or_not, below_or, length-update, m
 use Rattle.kasa_graph.proofs.NewNameLemmas.{AllDifferent-push}
 use Rattle.kasa_families.specs.declared.family.Family.{Family}
 use Rattle.kasa_families.specs.declared.row.Row.{Row}
-use Rattle.kasa_families.specs.Family.{family_types}
+use Rattle.kasa_graph.specs.Signature.{TypeEntry}
+use Rattle.kasa_families.specs.Family.{IsFamily, family_types}
 use Rattle.kasa_families.specs.First.{IsRooted}
-use Rattle.kasa_families.specs.Table.{Table, families_of, HasShape, AreShapedTables}
+use Rattle.kasa_families.specs.Table.{Table, AreTables, families_of, HasShape, AreShapedTables}
 use Rattle.kasa_families.proofs.TableLemmas.{family_at, table_of}
 use Rattle.kasa_tables.specs.Insert.{empty_table, empty_tables, with_last, with_row, row_count}
 
@@ -71,6 +72,17 @@ AreShapedTables-empty families different few = record {
   shapes = λ t has. shaped_rows t (no_rows families t has);
   few = rw (length-empty families) few;
   few_rows = rw (row_count-empty families) (omega arith);
+}
+
+no_row : (rows : List Row) (row : Row) → rows ≡ [] → ¬ Has rows row
+no_row rows row none has = let e : slice_get [] has.0 ≡ Some row = rw none at has.1 in cc
+
+pub AreTables-empty : (sig : List TypeEntry) (families : List Family) → AllDifferent families → ((family : Family) → Has families family → IsFamily sig family) → AreTables sig (empty_tables families)
+AreTables-empty sig families different valid = record {
+  different = rw (families_of-empty families) different;
+  families = λ t has. valid t.family (has.0, rw (families_of-empty families) at (family_at (empty_tables families) has.0 t (sym has.1)));
+  rows_differ = λ t has. rw (no_rows families t has) AllDifferent-[];
+  rows = λ t has row among. absurd (no_row t.rows row (no_rows families t has) among);
 }
 
 -- ---- tables with one row more

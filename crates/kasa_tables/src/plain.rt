@@ -1,4 +1,4 @@
-// Tables over plain vectors.
+// Tables over sets of rows that keep their order.
 ghost use Rattle.std.specs.Prelude.{◌≡◌, ◌≢◌, ◌≤◌, ◌<◌, ◌+◌, ◌↔◌, List, length, Some, Ok, Err, true, false, slice_get, IsTrue, IfOk, OnOk, OnErr};
 ghost use Rattle.std.specs.Option.{option_copied};
 ghost use Rattle.kasa_graph.specs.Lists.{Has, AllDifferent};
@@ -8,6 +8,7 @@ ghost use Rattle.kasa_families.specs.Table.{families_of, rows_of, HasShape};
 ghost use Rattle.kasa_tables.specs.declared.plain.InsertFault.TheVariants.{Full as full, NoMemory as no_memory};
 ghost use Rattle.kasa_tables.specs.Insert.{empty_tables, with_last, with_row, row_count};
 
+use indexmap::IndexSet;
 use kasa_families::{Family, Row, Rows, Spot, first_among, first_type};
 use kasa_graph::{Pattern, Signature};
 use kasa_num::{AgentType, FamilyNo, NoMemory};
@@ -40,7 +41,7 @@ impl From<NoMemory> for InsertFault {
 #[derive(Drop)]
 struct FamilyRows {
     family: Family,
-    rows: Vec<Row>,
+    rows: IndexSet<Row>,
 }
 
 impl Model for FamilyRows {
@@ -48,7 +49,7 @@ impl Model for FamilyRows {
 
     ghost Value = { Table };
 
-    ghost view = { λ t. record { family = t.family; rows = t.rows.items } };
+    ghost view = { λ t. record { family = t.family; rows = t.rows.keys } };
 }
 
 impl FamilyRows {
@@ -61,20 +62,22 @@ impl FamilyRows {
     fn row(&self, k: usize) -> Option<&Row>
         ensures { option_copied result ≡ slice_get self.now.rows k }
     {
-        self.rows.get(k)
+        self.rows.get_index(k)
     }
 
-    // Puts the row behind the others.
+    // Puts a new row behind the others.
     fn push(&mut self, row: Row) -> Result<(), NoMemory>
+        requires new { ¬ Has self.old.rows row }
         ensures ok { OnOk result (self.new ≡ with_last row self.old) }
         ensures err { OnErr result (self.new ≡ self.old) }
     {
-        self.rows.push(row)?;
+        self.rows.insert(row)?;
         Ok(())
     }
 }
 
-/// Tables whose rows stand in the order in which they were inserted. A look-up goes through the rows of one family.
+/// Tables whose rows stand in the order in which they were inserted. Whether a row is there is seen by its hash; a look-up
+/// of a compatible row goes through the rows of one family.
 #[derive(Drop)]
 pub struct PlainTables {
     tables: Vec<FamilyRows>,
@@ -108,7 +111,7 @@ impl PlainTables {
         let _valid_over = sig;
         let mut tables = Vec::new(alloc);
         for family in families {
-            let rows = Vec::new(alloc);
+            let rows = IndexSet::new(alloc);
             tables.push(FamilyRows { family, rows })?;
         }
         Ok(PlainTables { tables, count: 0 })
@@ -176,7 +179,7 @@ impl Rows for PlainTables {
 
     fn first_compatible(&self, f: FamilyNo, g: &Pattern, spot: Spot, from: usize) -> Option<usize> {
         let table = self.table(f)?;
-        first_among(&table.family, &table.rows, g, &spot, from)
+        first_among(&table.family, table.rows.as_slice(), g, &spot, from)
     }
 
     fn next_rooted(&self, agent: AgentType, from: usize) -> Option<FamilyNo> {

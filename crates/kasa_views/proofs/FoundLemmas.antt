@@ -8,8 +8,8 @@ use Rattle.kasa_families.specs.declared.row.Row.{Row}
 use Rattle.kasa_families.specs.Row.{IsRowBelow}
 use Rattle.kasa_families.specs.Table.{Table, rows_of}
 use Rattle.kasa_rules.specs.Rule.{RuleParts}
-use Rattle.kasa_views.specs.declared.collect.Aim.TheVariants.{UpTo, FirstMissing}
-use Rattle.kasa_views.specs.Results.{IsResult, AreResults, IsMissing, IsFirstMissing}
+use Rattle.kasa_views.specs.declared.collect.Aim.TheVariants.{UpTo, NewUpTo, FirstMissing}
+use Rattle.kasa_views.specs.Results.{IsResult, AreResults, IsMissing, AreNewResults, IsFirstMissing}
 use Rattle.kasa_views.specs.Collect.{IsSettled, AreFound}
 
 module _ (sig : List TypeEntry) (tables : List Table) (r : RuleParts) (f : ℕ) (found : List Row) where
@@ -24,6 +24,19 @@ module _ (sig : List TypeEntry) (tables : List Table) (r : RuleParts) (f : ℕ) 
       by : length found ≤ most → (row : Row) → (most < length found) ⊎ Has found row → Has found row
       by few row (inl more) = absurd (omega arith)
       by few row (inr has) = has
+
+  pub AreNewResults-found : (most : ℕ) → AreFound sig tables r f (NewUpTo most) found → ((row : Row) → IsResult sig tables r f row → IsSettled (rows_of tables f) (NewUpTo most) found row) → AreNewResults sig tables r f most found
+  AreNewResults-found most are settled = record {
+    different = are.fit.0;
+    missing = λ row has. (are.results row has, are.fit.2 row has);
+    complete = λ few row is. by few row (settled row is);
+    few = are.fit.1;
+  }
+    where
+      by : length found ≤ most → (row : Row) → Has (rows_of tables f) row ⊎ (most < length found) ⊎ Has found row → Has (rows_of tables f) row ⊎ Has found row
+      by few row (inl has) = inl has
+      by few row (inr (inl more)) = absurd (omega arith)
+      by few row (inr (inr has)) = inr has
 
   module _ (are : AreFound sig tables r f FirstMissing found) (settled : (row : Row) → IsResult sig tables r f row → IsSettled (rows_of tables f) FirstMissing found row) where
     -- a missing row isn't stored, so the first found row comes before it

@@ -4,6 +4,7 @@ pub mod Forward
 pub mod StandSites
 pub mod OutcomeLemmas
 pub mod WorkedRules
+pub mod WorkedTables
 pub mod CollectLemmas
 pub mod WalkLemmas
 pub mod FoundLemmas

@@ -3,16 +3,17 @@ use Rattle.std.proofs.Common.{◌≡◌, ◌≢◌, ℕ, ◌<◌, List, ap, ◌�
 use Rattle.std.specs.Prelude.{option_map}
 use Rattle.std.proofs.lemmas.Option.{slice_get-map}
 use Rattle.kasa_graph.specs.declared.pattern.Node.{Node}
-use Rattle.kasa_graph.specs.Pattern.{HasNodeSite}
+use Rattle.kasa_graph.specs.Signature.{TypeEntry, HasState}
+use Rattle.kasa_graph.specs.Pattern.{agent_at, HasNodeSite, IsPatternOver}
 use Rattle.kasa_graph.proofs.ListLemmas.{some_at, slice_get-update_other}
 use Rattle.kasa_rules.specs.declared.rule.Fate.TheVariants.{Kept}
 use Rattle.kasa_rules.specs.declared.rule.End.TheVariants.{Left}
 use Rattle.kasa_rules.specs.declared.rule.NodeAction.{NodeAction}
 use Rattle.kasa_rules.specs.declared.rule.MadeAgent.{MadeAgent}
 use Rattle.kasa_rules.specs.Rule.{RuleParts, fate_at, written_link, action_at}
-use Rattle.kasa_rules.specs.Draft.{new_draft, keep_node, with_made, with_deleted, delete_node, HasEndSite, IsOpen, IsUnwritten}
-use Rattle.kasa_rules.proofs.DraftLemmas.{written_state-deleted, written_link-deleted}
-use Rattle.kasa_rules.proofs.ReadyLemmas.{IsUnwritten-new}
+use Rattle.kasa_rules.specs.Draft.{new_draft, keep_node, with_made, with_deleted, with_written_state, delete_node, HasEndSite, HasEndState, IsOpen, IsUnwritten}
+use Rattle.kasa_rules.proofs.DraftLemmas.{written_state-deleted, written_link-deleted, fate_at-state, end_link-state, left-state}
+use Rattle.kasa_rules.proofs.ReadyLemmas.{IsUnwritten-new, HasEndState-left}
 
 pub kept_at : (name : List ℕ) (left : List Node) (n : ℕ) → n < length left → fate_at (new_draft name left) n ≡ Some Kept
 unfolding new_draft fate_at
@@ -44,3 +45,18 @@ HasEndSite-made r x n s has = has
 pub IsOpen-made : (r : RuleParts) (x : MadeAgent) (n s : ℕ) → IsOpen r (Left n) s → IsOpen (with_made r x) (Left n) s
 unfolding with_made written_link action_at
 IsOpen-made r x n s open_there = open_there
+
+-- and a state of its type is written
+pub HasEndState-new : (sig : List TypeEntry) (name : List ℕ) (left : List Node) (n s u : ℕ) → IsPatternOver sig left → n < length left → HasNodeSite left n s → ((a : ℕ) → agent_at left n ≡ Some a → HasState sig a s u) → HasEndState (new_draft name left) (Left n) s u
+unfolding new_draft agent_at
+HasEndState-new sig name left n s u over within has known =
+    let x = some_at left n within in
+    let typed : agent_at left n ≡ Some x.0.agent = ap (option_map (λ (node : Node). node.agent)) x.1 in
+    HasEndState-left sig (new_draft name left) n s u x.0.agent over typed has (known x.0.agent typed)
+
+-- and where a state is written
+pub HasEndSite-state : (r : RuleParts) (n s u m t : ℕ) → HasEndSite r (Left m) t → HasEndSite (with_written_state r (Left n) s u) (Left m) t
+HasEndSite-state r n s u m t has = (fate_at-state r (Left n) s u m ∙ has.0, rw (left-state r (Left n) s u) has.1)
+
+pub IsOpen-state : (r : RuleParts) (n s u m t : ℕ) → IsOpen r (Left m) t → IsOpen (with_written_state r (Left n) s u) (Left m) t
+IsOpen-state r n s u m t open_there = end_link-state r (Left n) s u (Left m) t ∙ open_there

@@ -16,7 +16,7 @@ use Rattle.kasa_pre.specs.declared.FreedBy.{FreedBy}
 use Rattle.kasa_pre.specs.Allowed.{IsAllowed}
 use Rattle.kasa_pre.specs.Before.{IsBefore}
 use Rattle.kasa_views.specs.declared.collect.Aim.{Aim}
-use Rattle.kasa_views.specs.declared.collect.Aim.TheVariants.{UpTo, FirstMissing}
+use Rattle.kasa_views.specs.declared.collect.Aim.TheVariants.{UpTo, NewUpTo, FirstMissing}
 use Rattle.kasa_views.specs.Comes.{Outcome, ComesOut, MayHaveShown, YieldsAt}
 use Rattle.kasa_views.specs.Results.{IsResult}
 
@@ -33,21 +33,25 @@ pub record IsAsked (sig : List TypeEntry) (tables : List Table) (r : RuleParts) 
 -- nothing more is to be done about the row, where the tables have some rows and some are found
 abbrev pub IsSettled : List Row → Aim → List Row → Row → Type 0
 IsSettled stored (UpTo most) found row = (most < length found) ⊎ Has found row
+IsSettled stored (NewUpTo most) found row = Has stored row ⊎ (most < length found) ⊎ Has found row
 IsSettled stored FirstMissing found row = Has stored row ⊎ ((least : Row) × (slice_get found 0 ≡ Some least) × ((least ≡ row) ⊎ IsRowBelow least row))
 
 -- the row is kept if it is yielded
 abbrev pub IsWanted : List Row → Aim → List Row → Row → Type 0
 IsWanted stored (UpTo most) found row = (length found ≤ most) × ¬ Has found row
+IsWanted stored (NewUpTo most) found row = (¬ Has stored row) × (length found ≤ most) × ¬ Has found row
 IsWanted stored FirstMissing found row = (¬ Has stored row) × ((least : Row) → slice_get found 0 ≡ Some least → IsRowBelow row least)
 
 -- which rows stay where one more is kept
 abbrev pub kept_by : Aim → List Row → List Row
 kept_by (UpTo most) found = found
+kept_by (NewUpTo most) found = found
 kept_by FirstMissing found = []
 
 -- so many rows, or such ones, may be found
 abbrev pub FitsAim : List Row → Aim → List Row → Type 0
 FitsAim stored (UpTo most) found = AllDifferent found × (length found ≤ suc most)
+FitsAim stored (NewUpTo most) found = AllDifferent found × (length found ≤ suc most) × ((row : Row) → Has found row → ¬ Has stored row)
 FitsAim stored FirstMissing found = (row : Row) → Has found row → ¬ Has stored row
 
 -- all found rows are yielded

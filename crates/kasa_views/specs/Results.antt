@@ -27,6 +27,14 @@ pub record AreResults (sig : List TypeEntry) (tables : List Table) (r : RulePart
 abbrev pub IsMissing : List TypeEntry → List Table → RuleParts → ℕ → Row → Type 0
 IsMissing sig tables r f row = IsResult sig tables r f row × (¬ Has (rows_of tables f) row)
 
+-- all of these, each once, where they are at most `most`, so that nothing else is yielded but what the tables have; and
+-- else so many of them and one more
+pub record AreNewResults (sig : List TypeEntry) (tables : List Table) (r : RuleParts) (f most : ℕ) (rows : List Row) : Type 0 where
+  pub different : AllDifferent rows
+  pub missing : (row : Row) → Has rows row → IsMissing sig tables r f row
+  pub complete : length rows ≤ most → (row : Row) → IsResult sig tables r f row → Has (rows_of tables f) row ⊎ Has rows row
+  pub few : length rows ≤ suc most
+
 -- the least of them in row order
 abbrev pub IsFirstMissing : List TypeEntry → List Table → RuleParts → ℕ → Row → Type 0
 IsFirstMissing sig tables r f row = IsMissing sig tables r f row × ((other : Row) → IsMissing sig tables r f other → (row ≡ other) ⊎ IsRowBelow row other)

@@ -1,6 +1,7 @@
 // What a search for rows of a view asks, and the rows that it keeps.
-ghost use Rattle.std.specs.Prelude.{◌≡◌, ◌⊎◌, IsTrue, MatchOption, OnOk, slice_get};
+ghost use Rattle.std.specs.Prelude.{◌≡◌, ◌<◌, ◌≤◌, ◌⊎◌, length, IsTrue, MatchOption, OnOk, slice_get};
 ghost use Rattle.std.specs.Bool.{MatchBool, OnTrue, OnFalse};
+ghost use Rattle.kasa_graph.specs.Lists.{Has};
 ghost use Rattle.kasa_families.specs.declared.row.Row.{Row};
 ghost use Rattle.kasa_families.specs.Row.{IsRowBelow};
 ghost use Rattle.kasa_families.specs.Table.{rows_of};
@@ -19,6 +20,8 @@ use std::alloc::Global;
 pub(crate) enum Aim {
     /// The rows that the rule yields, so many and one more at most.
     UpTo(usize),
+    /// Of the rows that the rule yields and that the tables don't have, so many and one more at most.
+    NewUpTo(usize),
     /// The least row that the rule yields and that the tables don't have.
     FirstMissing,
 }
@@ -45,7 +48,7 @@ pub(crate) fn is_full<R: Rows>(search: &Search<R>, found: &Found) -> bool
     ensures { OnTrue result ((row : Row) → IsSettled (rows_of (R.tables search.now.rows.now) search.now.number) search.now.aim found.now.keys row) }
 {
     match search.aim {
-        Aim::UpTo(most) => found.len() > most,
+        Aim::UpTo(most) | Aim::NewUpTo(most) => found.len() > most,
         Aim::FirstMissing => false,
     }
 }
@@ -56,9 +59,18 @@ pub(crate) fn is_wanted<R: Rows>(search: &Search<R>, found: &Found, row: &Row) -
     ensures settled { OnFalse result (IsSettled (rows_of (R.tables search.now.rows.now) search.now.number) search.now.aim found.now.keys row.now) }
 {
     match search.aim {
-        Aim::UpTo(most) => found.len() <= most && !found.contains(row),
+        Aim::UpTo(most) => is_open(found, most, row),
+        Aim::NewUpTo(most) => !search.rows.has(search.number, row) && is_open(found, most, row),
         Aim::FirstMissing => !search.rows.has(search.number, row) && is_below_first(found, row),
     }
+}
+
+// There may be more rows, and the row isn't one of those that are there.
+fn is_open(found: &Found, most: usize, row: &Row) -> bool
+    ensures open { OnTrue result ((length found.now.keys ≤ most) × ¬ Has found.now.keys row.now) }
+    ensures closed { OnFalse result ((most < length found.now.keys) ⊎ Has found.now.keys row.now) }
+{
+    found.len() <= most && !found.contains(row)
 }
 
 // The row comes before the first of the found ones, if there is one.
@@ -88,7 +100,7 @@ fn make_room(aim: Aim, found: &mut Found)
     ensures { found.new.keys ≡ kept_by aim found.old.keys }
 {
     match aim {
-        Aim::UpTo(_) => {}
+        Aim::UpTo(_) | Aim::NewUpTo(_) => {}
         Aim::FirstMissing => found.clear(),
     }
 }

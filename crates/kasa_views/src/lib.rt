@@ -6,11 +6,21 @@ pub mod laws;
 mod outcomes;
 #[cfg(test)]
 mod outcomes_tests;
+#[cfg(test)]
+mod row_tests;
+#[cfg(test)]
+mod search_tests;
 mod seen;
 #[cfg(test)]
 mod tests;
 mod walk;
+#[cfg(test)]
+mod worked;
+#[cfg(test)]
+mod worked_models;
+#[cfg(test)]
+mod worked_tables;
 mod yielded;
 
 pub use seen::initial;
-pub use yielded::{missing, results};
+pub use yielded::{missing, new_results, results};

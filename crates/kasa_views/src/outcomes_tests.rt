@@ -1,13 +1,13 @@
 // How agents come out of firings of worked rules. The helpers test what the calls require.
-ghost use Rattle.std.specs.Prelude.{◌≡◌, ◌∷◌, [], IsTrue, IfOk};
-ghost use Rattle.kasa_graph.specs.Pattern.{IsPatternOver};
-ghost use Rattle.kasa_rules.specs.Rule.{IsRuleOver, IsDraftOver};
-ghost use Rattle.kasa_pre.specs.Asked.{StandExists, StandsExist};
+ghost use Rattle.std.specs.Prelude.{IsTrue, IfOk};
+ghost use Rattle.kasa_rules.specs.Rule.{IsRuleOver};
+ghost use Rattle.kasa_pre.specs.Asked.{StandExists};
 
 use crate::outcomes::{Outcome, has_node_site, outcomes};
-use crate::tests::{CART, HUB, NOSE, PORT, local, open, yard};
+use crate::tests::{CART, HUB, LOCK, NOSE, PORT, TAIL, local, open, yard};
+use crate::worked::{ONE, deleting, finished, freeing, nodes};
 use kasa_families::{Local, LocalLink};
-use kasa_graph::{Pattern, Signature};
+use kasa_graph::Signature;
 use kasa_num::{AgentType, NodeNo, SiteNo, StateNo};
 use kasa_pre::{FreedBy, Stand};
 use kasa_rules::{End, Rule, RuleDraft};
@@ -15,72 +15,27 @@ use std::alloc::Global;
 use std::process::Abort;
 use std::test::Fail;
 
-const LOCK: SiteNo = SiteNo(1);
-
-const TAIL: SiteNo = SiteNo(1);
-
-// Carts without tests.
-fn carts(rt: &impl Abort, alloc: Global, sig: &Signature, count: usize) -> Result<Pattern, Fail>
-    ensures { IfOk result (λ g. IsPatternOver sig.now g) }
-{
-    let mut g = Pattern::new(alloc);
-    for _ in 0..count {
-        assert!(rt; (CART.0 as usize) < sig.types());
-        assert!(rt; g.nodes() < 1000);
-        g.add_node(sig, CART)?;
-    }
-    Ok(g)
-}
-
-fn finished(rt: &impl Abort, sig: &Signature, draft: RuleDraft) -> Rule
-    requires { IsDraftOver sig.now draft }
-    ensures { IsRuleOver sig.now result }
-{
-    let _sig = sig;
-    assert!(rt; draft.half_bond().is_none());
-    draft.finish()
-}
-
-// Cart() -> .
-fn scrap(rt: &impl Abort, alloc: Global, sig: &Signature) -> Result<Rule, Fail>
+// Cart(),.. -> .
+fn scrap(rt: &impl Abort, alloc: Global, sig: &Signature, carts: &[AgentType]) -> Result<Rule, Fail>
     ensures { IfOk result (λ rule. IsRuleOver sig.now rule) }
 {
-    let left = carts(rt, alloc, sig, 1)?;
-    assert!(rt; left.nodes() == 1);
-    let mut draft = RuleDraft::new(alloc, sig, b"scrap", left)?;
-    draft.delete(NodeNo(0));
-    Ok(finished(rt, sig, draft))
-}
-
-// Cart(),Cart() -> .
-fn scrap_two(rt: &impl Abort, alloc: Global, sig: &Signature) -> Result<Rule, Fail>
-    ensures { IfOk result (λ rule. IsRuleOver sig.now rule) }
-{
-    let left = carts(rt, alloc, sig, 2)?;
-    assert!(rt; left.nodes() == 2);
-    let mut draft = RuleDraft::new(alloc, sig, b"scrap two", left)?;
-    draft.delete(NodeNo(0));
-    draft.delete(NodeNo(1));
-    Ok(finished(rt, sig, draft))
+    let left = nodes(rt, alloc, sig, carts)?;
+    deleting(rt, alloc, sig, left, carts.len())
 }
 
 // Cart(nose) -> Cart(nose[.])
 fn release(rt: &impl Abort, alloc: Global, sig: &Signature) -> Result<Rule, Fail>
     ensures { IfOk result (λ rule. IsRuleOver sig.now rule) }
 {
-    let left = carts(rt, alloc, sig, 1)?;
-    assert!(rt; left.nodes() == 1);
-    assert!(rt; has_node_site(&left, NodeNo(0), NOSE));
-    let mut draft = RuleDraft::new(alloc, sig, b"release", left)?;
-    draft.write_free(NodeNo(0), NOSE);
-    Ok(finished(rt, sig, draft))
+    let left = nodes(rt, alloc, sig, &[CART])?;
+    freeing(rt, alloc, sig, left, ONE, NOSE)
 }
 
 // Cart(nose) -> Cart(nose[1]),Hub(port[1])
 fn dock(rt: &impl Abort, alloc: Global, sig: &Signature) -> Result<Rule, Fail>
     ensures { IfOk result (λ rule. IsRuleOver sig.now rule) }
 {
-    let left = carts(rt, alloc, sig, 1)?;
+    let left = nodes(rt, alloc, sig, &[CART])?;
     assert!(rt; left.nodes() == 1);
     assert!(rt; has_node_site(&left, NodeNo(0), NOSE));
     assert!(rt; (HUB.0 as usize) < sig.types());
@@ -145,7 +100,7 @@ fn at_cart(state: Option<StateNo>, at: SiteNo) -> Local {
 fn a_deleted_node_frees_the_partners_of_all_its_sites(rt: HostRuntime) -> Result<(), Fail> {
     let alloc = rt.alloc();
     let sig = yard(&rt, alloc)?;
-    let rule = scrap(&rt, alloc, &sig)?;
+    let rule = scrap(&rt, alloc, &sig, &[CART])?;
     for at in [NOSE, TAIL] {
         let shown = [at_cart(None, at), open()];
         let outs = outcomes_of(
@@ -188,7 +143,7 @@ fn one_node_never_frees_two_sites_by_its_one(rt: HostRuntime) -> Result<(), Fail
     let sites = [PORT, LOCK];
     let lock = Some(StateNo(0));
     let shown = [at_cart(None, NOSE), at_cart(lock, NOSE)];
-    let rule = scrap(&rt, alloc, &sig)?;
+    let rule = scrap(&rt, alloc, &sig, &[CART])?;
     let outs = outcomes_of(&rt, alloc, &sig, &rule, Stand::Outside, &sites, &shown)?;
     assert_eq!(&rt; outs.len(), 3);
     assert!(&rt; has(&outs, &shown, &[]));
@@ -209,7 +164,7 @@ fn two_nodes_free_two_sites_either_way(rt: HostRuntime) -> Result<(), Fail> {
     let sig = yard(&rt, alloc)?;
     let sites = [PORT, LOCK];
     let shown = [at_cart(None, NOSE), at_cart(Some(StateNo(0)), NOSE)];
-    let rule = scrap_two(&rt, alloc, &sig)?;
+    let rule = scrap(&rt, alloc, &sig, &[CART, CART])?;
     let outs = outcomes_of(&rt, alloc, &sig, &rule, Stand::Outside, &sites, &shown)?;
     assert_eq!(&rt; outs.len(), 7);
     let both = [Local::default(), open()];

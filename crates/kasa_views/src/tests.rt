@@ -17,9 +17,13 @@ pub(crate) const CART: AgentType = AgentType(1);
 
 pub(crate) const PORT: SiteNo = SiteNo(0);
 
+pub(crate) const LOCK: SiteNo = SiteNo(1);
+
 pub(crate) const NOSE: SiteNo = SiteNo(0);
 
-fn add_type(
+pub(crate) const TAIL: SiteNo = SiteNo(1);
+
+pub(crate) fn add_type(
     rt: &impl Abort,
     sig: &mut Signature,
     name: &[u8],
@@ -34,7 +38,7 @@ fn add_type(
     Ok(())
 }
 
-fn add_site(
+pub(crate) fn add_site(
     rt: &impl Abort,
     sig: &mut Signature,
     agent: AgentType,
@@ -47,7 +51,7 @@ fn add_site(
     Ok(())
 }
 
-fn add_state(
+pub(crate) fn add_state(
     rt: &impl Abort,
     sig: &mut Signature,
     agent: AgentType,
@@ -65,21 +69,26 @@ fn add_state(
 pub(crate) fn yard(rt: &impl Abort, alloc: Global) -> Result<Signature, Fail> {
     let mut sig = Signature::new(alloc);
     add_type(rt, &mut sig, b"Hub", &[b"port", b"lock"])?;
-    add_state(rt, &mut sig, HUB, SiteNo(1), b"open")?;
-    add_state(rt, &mut sig, HUB, SiteNo(1), b"shut")?;
+    add_state(rt, &mut sig, HUB, LOCK, b"open")?;
+    add_state(rt, &mut sig, HUB, LOCK, b"shut")?;
     add_type(rt, &mut sig, b"Cart", &[b"nose", b"tail"])?;
     Ok(sig)
 }
 
 // No agents, which are of every signature.
-fn nothing(alloc: Global, sig: &Signature) -> Mixture
+pub(crate) fn nothing(alloc: Global, sig: &Signature) -> Mixture
     ensures { IsMixtureOver sig.now result }
 {
     let _sig = sig;
     Mixture::new(alloc)
 }
 
-fn add(rt: &impl Abort, sig: &Signature, m: &mut Mixture, agent: AgentType) -> Result<(), Fail>
+pub(crate) fn add(
+    rt: &impl Abort,
+    sig: &Signature,
+    m: &mut Mixture,
+    agent: AgentType,
+) -> Result<(), Fail>
     requires { IsMixtureOver sig.now m.old }
     ensures { IsMixtureOver sig.now m.new }
 {
@@ -90,7 +99,7 @@ fn add(rt: &impl Abort, sig: &Signature, m: &mut Mixture, agent: AgentType) -> R
 }
 
 // The cell is living and has the site.
-fn has_site(sig: &Signature, m: &Mixture, cell: u32, site: SiteNo) -> bool
+pub(crate) fn has_site(sig: &Signature, m: &Mixture, cell: u32, site: SiteNo) -> bool
     requires { IsMixtureOver sig.now m.now }
     ensures { IsTrue result → HasAgentSite m.now cell site }
 {
@@ -101,7 +110,15 @@ fn has_site(sig: &Signature, m: &Mixture, cell: u32, site: SiteNo) -> bool
 }
 
 // A bond between sites of two agents.
-fn join(rt: &impl Abort, sig: &Signature, m: &mut Mixture, c: u32, s: SiteNo, d: u32, t: SiteNo)
+pub(crate) fn join(
+    rt: &impl Abort,
+    sig: &Signature,
+    m: &mut Mixture,
+    c: u32,
+    s: SiteNo,
+    d: u32,
+    t: SiteNo,
+)
     requires { IsMixtureOver sig.now m.old }
     ensures { IsMixtureOver sig.now m.new }
 {
@@ -126,7 +143,7 @@ fn three_hubs(rt: &impl Abort, alloc: Global, sig: &Signature) -> Result<Mixture
     Ok(m)
 }
 
-fn view(alloc: Global, agent: AgentType, sites: &[SiteNo]) -> Result<Family, Fail>
+pub(crate) fn view(alloc: Global, agent: AgentType, sites: &[SiteNo]) -> Result<Family, Fail>
     ensures { IfOk result (λ family. IsView family) }
 {
     Ok(Family::View {
@@ -144,7 +161,7 @@ pub(crate) fn open() -> Local {
     local(Some(StateNo(0)), LocalLink::Free)
 }
 
-fn row(rt: &impl Abort, alloc: Global, locals: &[Local]) -> Row {
+pub(crate) fn row(rt: &impl Abort, alloc: Global, locals: &[Local]) -> Row {
     assert!(rt; locals.len() <= 16);
     Row::Locals(Locals::new(alloc, locals))
 }
@@ -169,7 +186,7 @@ fn rows_of_an_init_stand_once_and_in_order(rt: HostRuntime) -> Result<(), Fail> 
     let at_nose = local(None, LocalLink::Partner(CART, NOSE));
     let first = [Local::default(), open()];
     let second = [at_nose, open()];
-    let rows = rows_of(&rt, alloc, HUB, &[PORT, SiteNo(1)])?;
+    let rows = rows_of(&rt, alloc, HUB, &[PORT, LOCK])?;
     assert_eq!(rt; rows.len(), 2);
     assert!(rt; rows[0] == row(&rt, alloc, &first));
     assert!(rt; rows[1] == row(&rt, alloc, &second));
@@ -179,7 +196,7 @@ fn rows_of_an_init_stand_once_and_in_order(rt: HostRuntime) -> Result<(), Fail> 
 #[test]
 fn equal_agents_show_one_row(rt: HostRuntime) -> Result<(), Fail> {
     let alloc = rt.alloc();
-    let rows = rows_of(&rt, alloc, HUB, &[SiteNo(1)])?;
+    let rows = rows_of(&rt, alloc, HUB, &[LOCK])?;
     assert_eq!(rt; rows.len(), 1);
     assert!(rt; rows[0] == row(&rt, alloc, &[open()]));
     let empty = rows_of(&rt, alloc, HUB, &[])?;
@@ -192,7 +209,7 @@ fn equal_agents_show_one_row(rt: HostRuntime) -> Result<(), Fail> {
 fn a_row_tells_the_site_at_the_other_end(rt: HostRuntime) -> Result<(), Fail> {
     let alloc = rt.alloc();
     let at_port = local(None, LocalLink::Partner(HUB, PORT));
-    let rows = rows_of(&rt, alloc, CART, &[NOSE, SiteNo(1)])?;
+    let rows = rows_of(&rt, alloc, CART, &[NOSE, TAIL])?;
     assert_eq!(rt; rows.len(), 1);
     assert!(rt; rows[0] == row(&rt, alloc, &[at_port, Local::default()]));
     Ok(())

@@ -13,7 +13,7 @@ ghost use Rattle.kasa_rules.specs.Rule.{IsRuleOver};
 ghost use Rattle.kasa_rules.specs.Firing.{fire};
 ghost use Rattle.kasa_pre.specs.Closed.{Cover};
 ghost use Rattle.kasa_views.specs.View.{IsView};
-ghost use Rattle.kasa_views.specs.Results.{IsResult, AreResults, IsMissing, IsFirstMissing};
+ghost use Rattle.kasa_views.specs.Results.{IsResult, AreResults, IsMissing, AreNewResults, IsFirstMissing};
 ghost use Rattle.kasa_views.specs.Collect.{IsSettled, AreFound};
 
 use crate::collect::{Aim, Found, Search};
@@ -43,6 +43,26 @@ pub fn results<R: Rows>(
     ensures follows { IfOk result (λ found. length found.items ≤ most → (m : List (Option Agent)) (cells : List ℕ) (family : Family) (row : Row) → IsMixtureOver sig.now m → Cover sig.now (R.tables rows.now) m → IsEmbedding rule.now.left m cells → slice_get (families_of (R.tables rows.now)) f ≡ Some family → IsRow sig.now family row → Occurs sig.now family row (fire rule.now cells m) → Has found.items row) }
 {
     let found = find_in(alloc, sig, rows, rule, f, Aim::UpTo(most))?;
+    listed(alloc, found)
+}
+
+/// The rows of a view that a rule yields from tables and that they don't have, each once, where they are at most `most`,
+/// and else `most + 1` of them. Rows that the tables have cost a look-up each.
+pub fn new_results<R: Rows>(
+    alloc: Global,
+    sig: &Signature,
+    rows: &R,
+    rule: &Rule,
+    f: FamilyNo,
+    most: usize,
+) -> Result<Vec<Row>, NoMemory>
+    requires tables { AreTables sig.now (R.tables rows.now) }
+    requires over { IsRuleOver sig.now rule.now }
+    requires view { (family : Family) × (slice_get (families_of (R.tables rows.now)) f ≡ Some family) × IsView family }
+    requires most { most ≤ 200000 }
+    ensures { IfOk result (λ found. AreNewResults sig.now (R.tables rows.now) rule.now f most found.items) }
+{
+    let found = find_in(alloc, sig, rows, rule, f, Aim::NewUpTo(most))?;
     listed(alloc, found)
 }
 

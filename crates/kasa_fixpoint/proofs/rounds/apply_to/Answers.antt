@@ -1,45 +1,9 @@
-use Rattle.std.proofs.Common.{ap, rules}
-use Rattle.kasa_rules.specs.declared.model.Model.{Model}
-use Rattle.kasa_families.specs.declared.row.Row.{Row}
-use Rattle.kasa_fixpoint.proofs.TableRows.{numbered}
-use Rattle.kasa_fixpoint.proofs.StepLemmas.{AreDue-results, HasShape-row, IsStep-takes, PassesLimit-lacks, PassesLimit-many}
+use Rattle.std.proofs.Common.{sym}
+use Rattle.kasa_fixpoint.proofs.SettledLemmas.{HaveResults-idle}
 use Rattle.kasa_fixpoint.proofs.rounds.apply_to.Goals as goal
 
-pub results-requires-clause-over : goal.results-requires-clause-over
-results-requires-clause-over c =
-    let rule = c.requires.rule in
-    c.model.invariant.0.rules rule.0 c.args.rule.now (rw (← c.model.view_is) at rule.1)
-
-pub results-requires-clause-view : goal.results-requires-clause-view
-results-requires-clause-view c =
-    let family = numbered c.args.growing.now.tables c.args.f c.requires.family in
-    (family.0, family.1, c.requires.under_way.views family.0 (c.args.f, family.1))
-
-pub returns-then-len-growing-clause-too_many : goal.returns-then-len-growing-clause-too_many
-returns-then-len-growing-clause-too_many c e =
-    let family = numbered c.args.growing.now.tables c.args.f c.requires.family in
-    let are = rw (ap (λ (m : Model). m.sig) c.model.view_is) at c.in_ok-rows.ensures.results in
-    let due = AreDue-results c.args.model.now c.args.growing.now.tables c.args.rule.now c.args.f c.args.growing.now.most family.0 c.in_ok-rows.rows.items c.requires.rule family.1 are in
-    PassesLimit-many c.args.model.now c.args.growing.now c.requires.under_way c.args.f family.0 c.in_ok-rows.rows.items family.1 due are.different (search rules)
-
-pub insert_all-requires-clause-shape : goal.insert_all-requires-clause-shape
-insert_all-requires-clause-shape c =
-    let family = numbered c.args.growing.now.tables c.args.f c.requires.family in
-    let are = rw (ap (λ (m : Model). m.sig) c.model.view_is) at c.in_ok-rows.ensures.results in
-    let due = AreDue-results c.args.model.now c.args.growing.now.tables c.args.rule.now c.args.f c.args.growing.now.most family.0 c.in_ok-rows.rows.items c.requires.rule family.1 are in
-    (family.0, family.1, λ (row : Row) has. HasShape-row c.args.model.now.sig family.0 row (due row has).0)
-
-pub returns-clause-step : goal.returns-clause-step
-returns-clause-step c =
-    let family = numbered c.args.growing.now.tables c.args.f c.requires.family in
-    let are = rw (ap (λ (m : Model). m.sig) c.model.view_is) at c.in_ok-rows.ensures.results in
-    let due = AreDue-results c.args.model.now c.args.growing.now.tables c.args.rule.now c.args.f c.args.growing.now.most family.0 c.in_ok-rows.rows.items c.requires.rule family.1 are in
-    let step = IsStep-takes c.args.model.now c.args.growing.now c.requires.under_way c.args.f family.0 c.in_ok-rows.rows.items family.1 due c.insert_all.new.self in
-    search rules
-
-pub returns-clause-too_many : goal.returns-clause-too_many
-returns-clause-too_many c e =
-    let family = numbered c.args.growing.now.tables c.args.f c.requires.family in
-    let are = rw (ap (λ (m : Model). m.sig) c.model.view_is) at c.in_ok-rows.ensures.results in
-    let due = AreDue-results c.args.model.now c.args.growing.now.tables c.args.rule.now c.args.f c.args.growing.now.most family.0 c.in_ok-rows.rows.items c.requires.rule family.1 are in
-    PassesLimit-lacks c.args.model.now c.args.growing.now c.requires.under_way c.args.f family.0 c.in_ok-rows.rows.items family.1 due (c.insert_all.ensures.too_many e)
+pub returns-then-not-names_type_of-clause-settled : goal.returns-then-not-names_type_of-clause-settled
+returns-then-not-names_type_of-clause-settled c = λ _.
+    HaveResults-idle c.args.model.now.sig c.args.growing.now.tables c.args.rule.now c.args.f c.in-Some.family.now c.requires.under_way.are_tables c.requires.over (sym c.in-Some.ensures)
+    (λ names. absurd (let yes = c.names_type_of.ensures.1 names in let no = c.if-not-names_type_of.true in cc))
+    (λ touches. absurd (let yes = c.requires.anywhere touches in let no = c.if-not-anywhere.true in cc))

@@ -7,7 +7,7 @@ use Rattle.kasa_tables.proofs.plain.PlainTablesRows.first_compatible.Goals as go
 
 pub returns : goal.returns
 returns c =
-    let t : Table = record { family = c.table-2.inside.family; rows = c.table-2.inside.rows.items } in
+    let t : Table = record { family = c.table-2.inside.family; rows = c.table-2.inside.rows.keys } in
     let at : Some t ≡ slice_get c.args.self.now c.args.f = ap Some c.table-2.view_is ∙ c.in_ok-table.ensures in
     IsLeastFrom-rows c.args.self.now c.args.f t at c.args.g.now (place_of c.args.spot) c.args.from c.first_among.result
-    (rw c.deref.ensures.value at c.first_among.ensures)
+    (rw c.as_slice.ensures.keys at c.first_among.ensures)

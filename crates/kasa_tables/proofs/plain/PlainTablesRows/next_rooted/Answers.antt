@@ -7,7 +7,7 @@ use Rattle.kasa_tables.proofs.plain.PlainTablesRows.next_rooted.Goals as goal
 
 pub loop-k-preserved : goal.loop-k-preserved
 loop-k-preserved c =
-    let t : Table = record { family = c.behind-self.inside.family; rows = c.behind-self.inside.rows.items } in
+    let t : Table = record { family = c.behind-self.inside.family; rows = c.behind-self.inside.rows.keys } in
     let within : c.loop-k.k < length c.self.inside.tables.items = omega arith in
     let at : Some t ≡ slice_get c.args.self.now c.loop-k.k =
     rw (← c.self.view_is) (ap Some (c.behind-self.view_is ∙ c.index.ensures) ∙ sym (slice_get-get_or c.self.inside.tables.items c.loop-k.k c.index.result.now within)) in
