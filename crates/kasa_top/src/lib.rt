@@ -2,7 +2,11 @@
 #![tactic(auto)]
 
 mod faults;
+#[cfg(test)]
+mod firing_tests;
 mod lemmas;
+#[cfg(test)]
+mod plain_firing;
 mod plan;
 mod program;
 #[cfg(test)]

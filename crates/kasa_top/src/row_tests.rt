@@ -6,7 +6,7 @@ use std::alloc::Global;
 use std::test::Fail;
 
 // The hub, where carts are scrapped: a scrapped cart frees the port of a hub that is shut.
-const SCRAP: &[u8] = b"%agent: Hub(port, lock{open shut})
+pub(crate) const SCRAP: &[u8] = b"%agent: Hub(port, lock{open shut})
 %agent: Cart(nose)
 %init: 5 Hub()
 %init: 5 Cart()
@@ -28,7 +28,7 @@ const SCRAP_REPORT: &[u8] = b"lemmas
 ";
 
 // One firing may free both ends of a beam.
-const BEAM: &[u8] = b"%agent: Beam(l, r)
+pub(crate) const BEAM: &[u8] = b"%agent: Beam(l, r)
 %agent: Cart(hook)
 %init: 1 Beam(l[1], r[2]), Cart(hook[1]), Cart(hook[2])
 'drop' Cart(), Cart() -> ., . @ 1
@@ -46,7 +46,7 @@ const BEAM_REPORT: &[u8] = b"lemmas
 ";
 
 // The rule frees a cart that it doesn't name.
-const CUT: &[u8] = b"%agent: Hub(port)
+pub(crate) const CUT: &[u8] = b"%agent: Hub(port)
 %agent: Cart(nose)
 %init: 1 Hub(port[1]), Cart(nose[1])
 'cut' Hub(port[_/.]) @ 1
@@ -86,7 +86,7 @@ const LOOP_REPORT: &[u8] = b"lemmas
 ";
 
 // Views don't see that an open hub holds no full cart.
-const LOAD: &[u8] = b"%agent: Hub(port, lock{open shut})
+pub(crate) const LOAD: &[u8] = b"%agent: Hub(port, lock{open shut})
 %agent: Cart(nose, load{empty full})
 %init: 1 Hub()
 %init: 1 Cart()
@@ -253,10 +253,10 @@ fn wall(alloc: Global, n: u16) -> Result<Vec<u8>, Fail> {
 #[test]
 fn a_wall_of_lamps_has_all_rows(rt: HostRuntime) -> Result<(), Fail> {
     let alloc = rt.alloc();
-    let text = wall(alloc, 8)?;
+    let text = wall(alloc, 10)?;
     let (code, printed) = analyse_large(alloc, text.as_slice())?;
     assert_eq!(rt; code, 0);
-    assert_eq!(rt; rows_in(printed.as_slice()), 256);
+    assert_eq!(rt; rows_in(printed.as_slice()), 1024);
     Ok(())
 }
 
@@ -283,6 +283,16 @@ fn put_tests(alloc: Global, text: &mut Vec<u8>, name: &[u8]) -> Result<(), Fail>
         let end = if number % 8 == 7 { b'\n' } else { b',' };
         text.push(end)?;
     }
+    Ok(())
+}
+
+#[test]
+fn as_many_views_as_the_limit_are_taken(rt: HostRuntime) -> Result<(), Fail> {
+    let alloc = rt.alloc();
+    let text = many_views(alloc, 250)?;
+    let (code, printed) = analyse_large(alloc, text.as_slice())?;
+    assert_eq!(rt; code, 0);
+    assert_eq!(rt; rows_in(printed.as_slice()), 8000);
     Ok(())
 }
 
