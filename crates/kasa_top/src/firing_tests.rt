@@ -302,7 +302,7 @@ fn a_hundred_firings_stay_in_the_tables(rt: HostRuntime) -> Result<(), Fail> {
     let alloc = rt.alloc();
     expect_run(&rt, alloc, SCRAP, 10, 20, 4)?;
     expect_run(&rt, alloc, CUT, 10, 10, 1)?;
-    expect_run(&rt, alloc, LOAD, 10, 50, 5)?;
+    expect_run(&rt, alloc, LOAD, 10, 70, 5)?;
     expect_run(&rt, alloc, MAKE, 20, 20, 3)?;
     Ok(())
 }
