@@ -27,13 +27,14 @@ fn tokens_of(alloc: Global, text: &[u8]) -> Result<Vec<Token>, ModelFault>
     }
 }
 
-fn tree_of(alloc: Global, text: &[u8], tokens: &[Token]) -> Result<Vec<Decl>, ModelFault>
+// The tokens are given up before the tree is compiled.
+fn tree_of(alloc: Global, text: &[u8]) -> Result<Vec<Decl>, ModelFault>
     requires few { length text.now ≤ 4194304 }
-    requires lexed { IsLexed text.now (Ok tokens.now) }
     ensures tree { IfOk result (λ decls. IsTree text.now decls.items) }
     ensures fault { IfErr result (λ fault. fault ≢ no_memory → IsFaultOf text.now fault) }
 {
-    match parse(alloc, text, tokens) {
+    let tokens = tokens_of(alloc, text)?;
+    match parse(alloc, text, tokens.as_slice()) {
         Ok(decls) => Ok(decls),
         Err(ParseFault::NoMemory) => Err(ModelFault::NoMemory),
         Err(fault) => Err(ModelFault::Parse(fault)),
@@ -74,7 +75,6 @@ pub fn read_model(alloc: Global, text: &[u8]) -> Result<Model, ModelFault>
     ensures model { IfOk result (λ model. IsModelOf text.now model) }
     ensures fault { IfErr result (λ fault. fault ≢ no_memory → IsFaultOf text.now fault) }
 {
-    let tokens = tokens_of(alloc, text)?;
-    let decls = tree_of(alloc, text, tokens.as_slice())?;
+    let decls = tree_of(alloc, text)?;
     model_of_tree(alloc, text, decls.as_slice())
 }
