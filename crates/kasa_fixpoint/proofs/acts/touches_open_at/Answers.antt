@@ -25,10 +25,9 @@ pub returns : goal.returns
 returns c =
     let node = node_typed (goal.at.returns c).After-agent in
     let count : c.sites-number-end.result ≡ length (state_counts c.args.sig.now c.agent.result) = c.sites-number-end.ensures.counts in
-    let all : c.sites-number-end.result ≤ c.loop-number.number = c.loop-number-test.false in
-    (
+    let all : c.sites-number-end.result ≤ c.loop-number.number = c.loop-number-test.false in (
       λ e. absurd cc,
       λ (s, has, touches, leaves).
-      let within : s < length (state_counts c.args.sig.now c.agent.result) = HasSite-over c.args.sig.now c.args.rule.now.left c.requires.over.over.left c.args.node c.agent.result s node has in
-      absurd (c.loop-number.invariant s (omega arith) touches leaves),
+          let within : s < length (state_counts c.args.sig.now c.agent.result) = HasSite-over c.args.sig.now c.args.rule.now.left c.requires.over.over.left c.args.node c.agent.result s node has in
+          absurd (c.loop-number.invariant s (omega arith) touches leaves),
     )
