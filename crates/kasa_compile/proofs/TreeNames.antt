@@ -1,188 +1,217 @@
 -- The trees that the parser gives have names.
-use Rattle.std.proofs.Common.{◌≡◌, ℕ, List, [], ◌∷◌, ◌++◌, Bool, true, false, if◌then◌else◌, ◌⊎◌, inl, inr, Option, Some, None, Ok, Err, length, refl, sym, subst}
-use Rattle.std.specs.List.{AllByRecursion}
+use Rattle.std.proofs.Common.{◌≡◌, ℕ, List, [], ◌∷◌, ◌++◌, Bool, true, false, if◌then◌else◌, ◌==◌, ◌⊎◌, inl, inr, Option, Some, None, Ok, length, sym, subst}
+use Rattle.std.specs.List.{AllByRecursion, list_any}
 use Rattle.kasa_graph.proofs.SplitLemmas.{AllByRecursion-append}
 use Rattle.kasa_syntax.specs.declared.tokens.Span.{Span}
 use Rattle.kasa_syntax.specs.declared.tokens.Token.{Token}
-use Rattle.kasa_syntax.specs.declared.agents.StateWord.{StateWord}
-use Rattle.kasa_syntax.specs.declared.agents.StateWord.TheVariants as state
-use Rattle.kasa_syntax.specs.declared.agents.StateText.{StateText}
-use Rattle.kasa_syntax.specs.declared.agents.LinkWord.{LinkWord}
+use Rattle.kasa_syntax.specs.declared.tokens.TokenKind.{TokenKind}
+use Rattle.kasa_syntax.specs.declared.tokens.TokenKind.TheVariants.{Name, Number, Symbol}
+use Rattle.kasa_syntax.specs.declared.agents.StateWord.TheVariants.{Hash, Named}
 use Rattle.kasa_syntax.specs.declared.agents.LinkWord.TheVariants as link
-use Rattle.kasa_syntax.specs.declared.agents.LinkText.{LinkText}
 use Rattle.kasa_syntax.specs.declared.agents.SiteText.{SiteText}
-use Rattle.kasa_syntax.specs.declared.agents.AgentText.{AgentText}
 use Rattle.kasa_syntax.specs.declared.decls.SiteDecl.{SiteDecl}
-use Rattle.kasa_syntax.specs.declared.decls.AgentDecl.{AgentDecl}
 use Rattle.kasa_syntax.specs.declared.decls.Item.{Item}
-use Rattle.kasa_syntax.specs.declared.decls.Item.TheVariants.{Absent, Agent as agent_item}
-use Rattle.kasa_syntax.specs.declared.decls.Form.{Form}
-use Rattle.kasa_syntax.specs.declared.decls.Form.TheVariants.{Edit, Arrow as arrow_form}
+use Rattle.kasa_syntax.specs.declared.decls.Item.TheVariants.{Absent}
 use Rattle.kasa_syntax.specs.declared.decls.Decl.{Decl}
-use Rattle.kasa_syntax.specs.declared.decls.Decl.TheVariants as decl
 use Rattle.kasa_lexer.specs.Tokens.{IsOutcome as IsLexed}
-use Rattle.kasa_parser.specs.Words.{Word, words_of}
-use Rattle.kasa_parser.specs.Grammar.{AreMore, AreListed, IsStateWord, IsLinkWord, IsRight, IsOneStateWord, IsStateText, IsLinkText, AreParts, IsSite, IsAgent, IsStateName, AreStates, AreDeclaredParts, IsSiteDecl, IsAgentDecl, IsCountAndComplex, IsItem, IsBody, IsDeclaration}
+use Rattle.kasa_parser.specs.declared.wanted.Wanted.TheVariants.{Other}
+use Rattle.kasa_parser.specs.declared.run.Keyword.{Keyword}
+use Rattle.kasa_parser.specs.declared.run.Keyword.TheVariants as keyword
+use Rattle.kasa_parser.specs.Words.{Word, Kinds, only, words_of, same_kind, are_digits}
+use Rattle.kasa_parser.specs.Rules.{Rule, give, stuck, AreMany, maybe, behind_comma, listed_some, listed, in_any_order}
+use Rattle.kasa_parser.specs.Grammar as grammar
+use Rattle.kasa_parser.specs.Decls as decls
+use Rattle.kasa_parser.specs.Decls.{state_name_at, Said}
 use Rattle.kasa_parser.specs.Declarations.{Declaration, is_break, last_kind, next_kind, ends_at, deeper, ended, declarations_from, declarations_of}
 use Rattle.kasa_parser.specs.Parses.{Parses, with_declared, IsOutcome as IsParsed}
 use Rattle.kasa_parser.specs.Parses.Parses.{ended as no_more, read}
 use Rattle.kasa_sig.specs.Words.{IsNameSpan, SiteDeclHasNames, AgentDeclHasNames, StateWordHasNames, LinkWordHasNames, IfGiven, StatesHaveNames, LinksHaveNames, SiteHasNames, AgentHasNames, ItemHasNames, FormHasNames, DeclHasNames}
 use Rattle.kasa_compile.proofs.WordNames.{IsNamed, AreNamed, words_named}
 
--- ---- lists of words
+-- ---- what trees have where their words are named, for each part of a grammar
 
-all_split : {X : Type 0} (P : X → Type 0) (xs ys : List X) → AllByRecursion P (xs ++ ys) → AllByRecursion P xs × AllByRecursion P ys
-all_split P [] ys all = (tt, all)
-all_split P (x ∷ xs) ys all = let more = all_split P xs ys all.1 in ((all.0, more.0), more.1)
+record Gives {A : Type 0} (text : List ℕ) (Is : List Word → A → Type 0) (Q : A → Type 0) : Type 0 where
+  has : (ws : List Word) (x : A) → Is ws x → AreNamed text ws → Q x
 
 cut : (text : List ℕ) (ws xs ys : List Word) → ws ≡ xs ++ ys → AreNamed text ws → AreNamed text xs × AreNamed text ys
-cut text ws xs ys is named = all_split (IsNamed text) xs ys (subst (AreNamed text) is named)
+cut text ws xs ys is named = all_split xs ys (subst (AreNamed text) is named)
+  where
+    all_split : (xs ys : List Word) → AreNamed text (xs ++ ys) → AreNamed text xs × AreNamed text ys
+    all_split [] ys named = (tt, named)
+    all_split (x ∷ xs) ys named = let more = all_split xs ys named.1 in ((named.0, more.0), more.1)
 
--- what elements have whose words are named
-abbrev Each : {A : Type 0} → List ℕ → (List Word → A → Type 0) → (A → Type 0) → Type 0
-Each {A = A} text IsOne Q = (ws : List Word) (x : A) → IsOne ws x → AreNamed text ws → Q x
+given : {A : Type 0} {text : List ℕ} {x : A} {Q : A → Type 0} → Q x → Gives text (give x).Is Q
+given {Q = Q} has = record { has = λ ws y is named. subst Q (sym is.1) has }
 
-more_all : {A : Type 0} (text : List ℕ) (IsOne : List Word → A → Type 0) (Q : A → Type 0) → Each text IsOne Q → (ws : List Word) (xs : List A) → AreMore IsOne ws xs → AreNamed text ws → AllByRecursion Q xs
-more_all text IsOne Q each ws [] is named = tt
-more_all text IsOne Q each ws (x ∷ xs) (comma, first, rest, is_comma, is_first, more, is) named =
-    let sides = cut text ws (comma ++ first) rest is named in
-    (each first x is_first (all_split (IsNamed text) comma first sides.0).1, more_all text IsOne Q each rest xs more sides.1)
+a_word : {A : Type 0} {text : List ℕ} {take : Word → Option A} {Q : A → Type 0} → ((w : Word) → IsNamed text w → IfGiven Q (take w)) → Gives text (λ ws x. (w : Word) × (take w ≡ Some x) × (ws ≡ w ∷ [])) Q
+a_word {text = text} {Q = Q} taken = record { has = λ ws x is named. subst (IfGiven Q) is.1 (taken is.0 (subst (AreNamed text) is.2 named).0) }
 
-listed_all : {A : Type 0} (text : List ℕ) (IsOne : List Word → A → Type 0) (Q : A → Type 0) → Each text IsOne Q → (ws : List Word) (xs : List A) → AreListed IsOne ws xs → AreNamed text ws → AllByRecursion Q xs
-listed_all text IsOne Q each ws [] is named = tt
-listed_all text IsOne Q each ws (x ∷ xs) (first, rest, is_first, more, is) named =
-    let parts = cut text ws first rest is named in
-    (each first x is_first parts.0, more_all text IsOne Q each rest xs more parts.1)
+next : {A B : Type 0} {text : List ℕ} {I : List Word → A → Type 0} {J : A → List Word → B → Type 0} {Q : A → Type 0} {R : B → Type 0} →
+    Gives text I Q → ((x : A) → Q x → Gives text (J x) R) → Gives text (λ ws y. (x : A) × (a b : List Word) × I a x × J x b y × (ws ≡ a ++ b)) R
+next {text = text} one two = record {
+  has = λ ws y is named.
+      let sides = cut text ws is.1 is.2 is.5 named in
+      (two is.0 (one.has is.1 is.0 is.3 sides.0)).has is.2 y is.4 sides.1;
+}
+
+-- whatever the first gives
+skip : {A B : Type 0} {text : List ℕ} {I : List Word → A → Type 0} {J : A → List Word → B → Type 0} {R : B → Type 0} →
+    ((x : A) → Gives text (J x) R) → Gives text (λ ws y. (x : A) × (a b : List Word) × I a x × J x b y × (ws ≡ a ++ b)) R
+skip two = next {Q = λ x. Unit {0}} (record { has = λ ws x is named. tt }) (λ x any. two x)
+
+either : {A : Type 0} {text : List ℕ} {I J : List Word → A → Type 0} {Q : A → Type 0} → Gives text I Q → Gives text J Q → Gives text (λ ws x. I ws x ⊎ J ws x) Q
+either {A} {text} {I} {J} {Q} one two = record { has = by }
+  where
+    by : (ws : List Word) (x : A) → I ws x ⊎ J ws x → AreNamed text ws → Q x
+    by ws x (inl is) named = one.has ws x is named
+    by ws x (inr is) named = two.has ws x is named
+
+all_many : {A : Type 0} (text : List ℕ) (I : List Word → A → Type 0) (Q : A → Type 0) → Gives text I Q → (ws : List Word) (xs : List A) → AreMany I ws xs → AreNamed text ws → AllByRecursion Q xs
+all_many text I Q one ws [] are named = tt
+all_many text I Q one ws (x ∷ xs) (a, b, is, are, e) named =
+    let sides = cut text ws a b e named in
+    (one.has a x is sides.0, all_many text I Q one b xs are sides.1)
+
+-- what holds of both holds of the one that a test chooses
+chosen : {A : Type 0} (P : A → Type 0) (b : Bool) (x y : A) → P x → P y → P (if b then x else y)
+chosen P true x y first second = first
+chosen P false x y first second = second
+
+-- what holds of none and of some holds of what may be given
+by_given : {A : Type 0} {Q : A → Type 0} (P : Option A → Type 0) → P None → ((x : A) → Q x → P (Some x)) → (o : Option A) → IfGiven Q o → P o
+by_given P none some None has = none
+by_given P none some (Some x) has = some x has
+
+-- ---- the parts that are made of these
+
+-- a rule by its trees alone, since how it is read is nothing here
+abbrev of : {A : Type 0} → (List Word → A → Type 0) → Rule A
+of I = record { Is = I; read = λ ws. stuck Other ws }
+
+abbrev no_kinds : Kinds
+no_kinds = only []
+
+perhaps : {A : Type 0} {text : List ℕ} {I : List Word → A → Type 0} {Q : A → Type 0} → Gives text I Q → Gives text (maybe no_kinds (of I)).Is (IfGiven Q)
+perhaps one = either (next one (λ x has. given has)) (given tt)
+
+some_listed : {A : Type 0} {text : List ℕ} {I : List Word → A → Type 0} {Q : A → Type 0} → Gives text I Q → Gives text (listed_some no_kinds (of I)).Is (AllByRecursion Q)
+some_listed {text = text} {I = I} {Q = Q} one =
+    next one (λ x has. next (record { has = all_many text (behind_comma (of I)).Is Q (either (skip (λ comma. one)) one) }) (λ xs have. given (has, have)))
+
+all_listed : {A : Type 0} {text : List ℕ} {I : List Word → A → Type 0} {Q : A → Type 0} → Gives text I Q → Gives text (listed no_kinds (of I)).Is (AllByRecursion Q)
+all_listed one = either (some_listed one) (given tt)
+
+any_order : {A B C : Type 0} {text : List ℕ} {I : List Word → A → Type 0} {J : List Word → B → Type 0} {Q : A → Type 0} {R : B → Type 0} {S : C → Type 0} (f : Option A → Option B → C) →
+    Gives text I Q → Gives text J R → ((x : Option A) (y : Option B) → IfGiven Q x → IfGiven R y → S (f x y)) → Gives text (in_any_order no_kinds (of I) no_kinds (of J) f).Is S
+any_order f one two both =
+    either (next one (λ x has. next (perhaps two) (λ y also. given (both (Some x) y has also))))
+    (either (next two (λ y also. next (perhaps one) (λ x has. given (both x (Some y) has also)))) (given (both None None tt tt)))
 
 -- ---- sites
 
-state_word : (text : List ℕ) → Each text IsOneStateWord (StateWordHasNames text)
-state_word text ws state.Hash is named = tt
-state_word text ws (state.Named span) (w, (is_word, at), is) named = subst (IsNameSpan text) (sym at) ((subst (AreNamed text) is named).0 is_word)
+name : (text : List ℕ) → Gives text grammar.name.Is (IsNameSpan text)
+name text = a_word (λ w named. by w.kind w named)
+  where
+    by : (k : TokenKind) (w : Word) → IfGiven (IsNameSpan text) (state_name_at k w) → IfGiven (IsNameSpan text) (grammar.name_at k w.span)
+    by Name w named = named
+    by k w named = tt
 
-link_word : (text : List ℕ) → Each text IsLinkWord (LinkWordHasNames text)
-link_word text ws link.Free is named = tt
-link_word text ws link.Hash is named = tt
-link_word text ws link.Bound is named = tt
-link_word text ws (link.Label number span) is named = tt
-link_word text ws (link.Partner site agent) (s, dot, a, is_site, is_dot, is_agent, at_site, at_agent, is) named =
-    let all = subst (AreNamed text) is named in
-    (subst (IsNameSpan text) (sym at_site) (all.0 (inl is_site)), subst (IsNameSpan text) (sym at_agent) (all.1.1.0 (inl is_agent)))
+state_word : (text : List ℕ) → Gives text grammar.state_word.Is (StateWordHasNames text)
+state_word text = a_word (λ w named. by w.kind w named)
+  where
+    digits : (b : Bool) (span : Span) → IfGiven (IsNameSpan text) (if b then Some span else None) → IfGiven (StateWordHasNames text) (if b then Some (Named span) else None)
+    digits true span named = named
+    digits false span named = tt
 
-right_word : {A : Type 0} (text : List ℕ) (IsOne : List Word → A → Type 0) (Q : A → Type 0) → Each text IsOne Q → (edit : Bool) (ws : List Word) (x : Option A) → IsRight IsOne edit ws x → AreNamed text ws → IfGiven Q x
-right_word text IsOne Q each edit ws None is named = tt
-right_word text IsOne Q each edit ws (Some x) (edited, (slash, right, is_slash, is_right, is)) named = each right x is_right (subst (AreNamed text) is named).1
+    by : (k : TokenKind) (w : Word) → IfGiven (IsNameSpan text) (state_name_at k w) → IfGiven (StateWordHasNames text) (grammar.state_at k w)
+    by Name w named = named
+    by Number w named = digits (are_digits w.bytes) w.span named
+    by (Symbol b) w named = chosen (IfGiven (StateWordHasNames text)) (b == 35) (Some Hash) None tt tt
+    by k w named = tt
 
-state_text : (text : List ℕ) (edit : Bool) (ws : List Word) (t : StateText) → IsStateText edit ws t → AreNamed text ws → StateWordHasNames text t.left × IfGiven (StateWordHasNames text) t.right
-state_text text edit ws t (opening, closing, left, right, is_opening, is_left, is_right, is_closing, is) named =
-    let inner = all_split (IsNamed text) (left ++ right) (closing ∷ []) (subst (AreNamed text) is named).1 in
-    let words = all_split (IsNamed text) left right inner.0 in
-    (state_word text left t.left is_left words.0, right_word text IsOneStateWord (StateWordHasNames text) (state_word text) edit right t.right is_right words.1)
+link_word : (text : List ℕ) → Gives text grammar.link_word.Is (LinkWordHasNames text)
+link_word text = either (next (name text) (λ s site. skip (λ dot. next (name text) (λ a agent. given (site, agent))))) (a_word (λ w named. by w.kind w))
+  where
+    by : (k : TokenKind) (w : Word) → IfGiven (LinkWordHasNames text) (grammar.link_at k w)
+    by (Symbol b) w = chosen (IfGiven (LinkWordHasNames text)) (b == 46) (Some link.Free) (if b == 35 then Some link.Hash else None) tt (chosen (IfGiven (LinkWordHasNames text)) (b == 35) (Some link.Hash) None tt tt)
+    by Number w = chosen (IfGiven (LinkWordHasNames text)) (grammar.is_label w.bytes) (Some (link.Label _ _)) None tt tt
+    by k w = tt
 
-link_text : (text : List ℕ) (edit : Bool) (ws : List Word) (t : LinkText) → IsLinkText edit ws t → AreNamed text ws → LinkWordHasNames text t.left × IfGiven (LinkWordHasNames text) t.right
-link_text text edit ws t (opening, closing, left, right, is_opening, is_left, is_right, is_closing, is) named =
-    let inner = all_split (IsNamed text) (left ++ right) (closing ∷ []) (subst (AreNamed text) is named).1 in
-    let words = all_split (IsNamed text) left right inner.0 in
-    (link_word text left t.left is_left words.0, right_word text IsLinkWord (LinkWordHasNames text) (link_word text) edit right t.right is_right words.1)
+right : {A : Type 0} {text : List ℕ} {Q : A → Type 0} (edit : Bool) (r : Rule A) → Gives text r.Is Q → Gives text (grammar.right edit r).Is (IfGiven Q)
+right true r one = perhaps (skip (λ slash. one))
+right false r one = given tt
 
-parts : (text : List ℕ) (edit : Bool) (ws : List Word) (s : Option StateText) (l : Option LinkText) → AreParts edit ws s l → AreNamed text ws → StatesHaveNames text s × LinksHaveNames text l
-parts text edit ws None None is named = (tt, tt)
-parts text edit ws (Some s) None is named = (state_text text edit ws s is named, tt)
-parts text edit ws None (Some l) is named = (tt, link_text text edit ws l is named)
-parts text edit ws (Some s) (Some l) (a, b, is_state, is_link, inl is) named =
-    let both = cut text ws a b is named in
-    (state_text text edit a s is_state both.0, link_text text edit b l is_link both.1)
-parts text edit ws (Some s) (Some l) (a, b, is_state, is_link, inr is) named =
-    let both = cut text ws b a is named in
-    (state_text text edit a s is_state both.1, link_text text edit b l is_link both.0)
+state : (text : List ℕ) (edit : Bool) → Gives text (grammar.state edit).Is (λ t. StatesHaveNames text (Some t))
+state text edit = skip (λ opening. next (state_word text) (λ l left. next (right edit grammar.state_word (state_word text)) (λ r behind. skip (λ closing. given (left, behind)))))
 
-site : (text : List ℕ) (edit : Bool) → Each text (IsSite edit) (SiteHasNames text)
-site text edit ws s (name, more, is_name, at, are, is) named =
-    let all = subst (AreNamed text) is named in
-    let both = parts text edit more s.state s.link are all.1 in
-    record { name = subst (IsNameSpan text) (sym at) (all.0 (inl is_name)); states = both.0; links = both.1 }
+link_text : (text : List ℕ) (edit : Bool) → Gives text (grammar.link_text edit).Is (λ t. LinksHaveNames text (Some t))
+link_text text edit = skip (λ opening. next (link_word text) (λ l left. next (right edit grammar.link_word (link_word text)) (λ r behind. skip (λ closing. given (left, behind)))))
+
+site : (text : List ℕ) (edit : Bool) → Gives text (grammar.site edit).Is (SiteHasNames text)
+site text edit =
+    next (name text) (λ n named. any_order {C = SiteText} (λ s l. record { name = n; state = s; link = l }) (state text edit) (link_text text edit)
+    (λ s l have has. record { name = named; states = by_given (StatesHaveNames text) tt (λ t all. all) s have; links = by_given (LinksHaveNames text) tt (λ t all. all) l has }))
 
 -- ---- agents
 
-agent : (text : List ℕ) (edit : Bool) → Each text (IsAgent edit) (AgentHasNames text)
-agent text edit ws a (name, opening, closing, sites, mark, is_name, at, is_opening, are, is_closing, is_mark, is) named =
-    let all = subst (AreNamed text) is named in
-    let inner = all_split (IsNamed text) sites (closing ∷ mark) all.1.1 in
-    record {
-      name = subst (IsNameSpan text) (sym at) (all.0 (inl is_name));
-      sites = listed_all text (IsSite edit) (SiteHasNames text) (site text edit) sites a.sites are inner.0;
-    }
+agent : (text : List ℕ) (edit : Bool) → Gives text (grammar.agent edit).Is (AgentHasNames text)
+agent text edit =
+    next (name text) (λ n named. skip (λ opening. next (all_listed (site text edit)) (λ some sites. skip (λ closing. skip (λ m.
+    given (record { name = named; sites = sites }))))))
 
-item : (text : List ℕ) (edit : Bool) → Each text (IsItem edit) (ItemHasNames text)
-item text edit ws Absent is named = tt
-item text edit ws (agent_item a) is named = agent text edit ws a is named
+items : (text : List ℕ) (edit : Bool) → Gives text (grammar.items edit).Is (AllByRecursion (ItemHasNames text))
+items text edit =
+    all_listed (either (next (agent text edit) (λ a has. given has)) (a_word (λ w named. chosen (IfGiven (ItemHasNames text)) (same_kind (Symbol 46) w.kind) (Some Absent) None tt tt)))
 
 -- ---- agent declarations
 
-state_name : (text : List ℕ) → Each text IsStateName (IsNameSpan text)
-state_name text ws span (w, is_word, at, is) named = subst (IsNameSpan text) (sym at) ((subst (AreNamed text) is named).0 is_word)
+states : (text : List ℕ) → Gives text decls.states.Is (AllByRecursion (IsNameSpan text))
+states text = skip (λ opening. next (all_listed (a_word (λ w named. named))) (λ some have. skip (λ closing. given have)))
 
-states : (text : List ℕ) (ws : List Word) (spans : List Span) → AreStates ws spans → AreNamed text ws → AllByRecursion (IsNameSpan text) spans
-states text ws spans (opening, closing, inner, is_opening, are, is_closing, is) named =
-    listed_all text IsStateName (IsNameSpan text) (state_name text) inner spans are (all_split (IsNamed text) inner (closing ∷ []) (subst (AreNamed text) is named).1).0
+site_decl : (text : List ℕ) → Gives text decls.site_decl.Is (SiteDeclHasNames text)
+site_decl text =
+    next (name text) (λ n named. any_order {C = SiteDecl} {R = λ x. Unit {0}} (λ s l. record { name = n; states = decls.states_or_none s }) (states text) (record { has = λ ws x is all. tt })
+    (λ s l have links. record { name = named; states = by_given (λ o. AllByRecursion (IsNameSpan text) (decls.states_or_none o)) tt (λ some all. all) s have }))
 
-no_states : (text : List ℕ) (spans : List Span) → spans ≡ [] → AllByRecursion (IsNameSpan text) spans
-no_states text spans is = subst (AllByRecursion (IsNameSpan text)) (sym is) tt
-
-declared_parts : (text : List ℕ) (ws : List Word) (spans : List Span) → AreDeclaredParts ws spans → AreNamed text ws → AllByRecursion (IsNameSpan text) spans
-declared_parts text ws spans (inl (is, none)) named = no_states text spans none
-declared_parts text ws spans (inr (inl are)) named = states text ws spans are named
-declared_parts text ws spans (inr (inr (inl (are, none)))) named = no_states text spans none
-declared_parts text ws spans (inr (inr (inr (a, b, are, links, inl is)))) named = states text a spans are (cut text ws a b is named).0
-declared_parts text ws spans (inr (inr (inr (a, b, are, links, inr is)))) named = states text a spans are (cut text ws b a is named).1
-
-site_decl : (text : List ℕ) → Each text IsSiteDecl (SiteDeclHasNames text)
-site_decl text ws d (name, more, is_name, at, are, is) named =
-    let all = subst (AreNamed text) is named in
-    record { name = subst (IsNameSpan text) (sym at) (all.0 (inl is_name)); states = declared_parts text more d.states are all.1 }
-
-agent_decl : (text : List ℕ) → Each text IsAgentDecl (AgentDeclHasNames text)
-agent_decl text ws d (percent, colon, name, opening, closing, sites, is_percent, is_colon, is_name, at, is_opening, are, is_closing, is) named =
-    let all = subst (AreNamed text) is named in
-    let inner = all_split (IsNamed text) sites (closing ∷ []) all.1.1.1.1 in
-    record {
-      name = subst (IsNameSpan text) (sym at) (all.1.1.0 (inl is_name));
-      sites = listed_all text IsSiteDecl (SiteDeclHasNames text) (site_decl text) sites d.sites are inner.0;
-    }
+agent_text : (text : List ℕ) → Gives text decls.agent_text.Is (AgentDeclHasNames text)
+agent_text text =
+    skip (λ colon. next (name text) (λ n named. skip (λ opening. next (all_listed (site_decl text)) (λ some sites. skip (λ closing.
+    given (record { name = named; sites = sites }))))))
 
 -- ---- inits and rules
 
-complex : (text : List ℕ) (ws : List Word) (agents : List AgentText) → IsCountAndComplex ws agents → AreNamed text ws → AllByRecursion (AgentHasNames text) agents
-complex text ws agents (inl (count, inner, are_count, no_opening, are, some, is)) named =
-    listed_all text (IsAgent false) (AgentHasNames text) (agent text false) inner agents are (cut text ws count inner is named).1
-complex text ws agents (inr (count, inner, opening, closing, are_count, is_opening, are, some, is_closing, is)) named =
-    let before = (cut text ws (count ++ opening ∷ inner) (closing ∷ []) is named).0 in
-    listed_all text (IsAgent false) (AgentHasNames text) (agent text false) inner agents are (all_split (IsNamed text) count (opening ∷ inner) before).1.1
+init_agents : (text : List ℕ) → Gives text decls.init_agents.Is (AllByRecursion (AgentHasNames text))
+init_agents text = skip (λ colon. skip (λ after_open. next (some_listed (agent text false)) (λ some have. skip (λ closing. given have))))
 
-body : (text : List ℕ) (ws : List Word) (form : Form) → IsBody ws form → AreNamed text ws → FormHasNames text form
-body text ws (Edit items) (are, some) named = listed_all text (IsItem true) (ItemHasNames text) (item text true) ws items are named
-body text ws (arrow_form left right both) (before, after, arrow, are_left, is_arrow, are_right, is) named =
-    let sides = cut text ws before (arrow ∷ after) is named in (
-      listed_all text (IsItem false) (ItemHasNames text) (item text false) before left are_left sides.0,
-      listed_all text (IsItem false) (ItemHasNames text) (item text false) after right are_right sides.1.1,
-    )
+arrow : (text : List ℕ) (left : List Item) → AllByRecursion (ItemHasNames text) left → Gives text (decls.arrow left).Is (FormHasNames text)
+arrow text left have = skip (λ both. next (items text false) (λ right also. given (have, also)))
 
-declaration : (text : List ℕ) (ws : List Word) (given : Option Decl) → IsDeclaration ws given → AreNamed text ws → IfGiven (DeclHasNames text) given
-declaration text ws None is named = tt
-declaration text ws (Some (decl.Agent d)) is named = agent_decl text ws d is named
-declaration text ws (Some (decl.Init d)) (percent, colon, rest, is_percent, is_colon, are, span, is) named = complex text rest d.agents are (subst (AreNamed text) is named).1.1
-declaration text ws (Some (decl.Rule d)) (name, inner, rate, is_name, is_body, is_rate, span, is) named =
-    let before = (cut text ws (name ++ inner) rate is named).0 in
-    body text inner d.form is_body (all_split (IsNamed text) name inner before).1
+body_behind : (text : List ℕ) (edited : Bool) (some : List Item) → AllByRecursion (ItemHasNames text) some → Gives text (decls.body_behind edited some).Is (FormHasNames text)
+body_behind text edited [] have = arrow text [] tt
+body_behind text true (x ∷ xs) have = given have
+body_behind text false (x ∷ xs) have = either (arrow text (x ∷ xs) have) (given have)
+
+body : (text : List ℕ) → Gives text decls.body.Is (FormHasNames text)
+body text = next (items text true) (λ some have. body_behind text (list_any decls.is_edited some) some have)
+
+abbrev SaidHasNames : List ℕ → Said → Type 0
+SaidHasNames text said = (span : Span) → IfGiven (DeclHasNames text) (said span)
+
+behind_keyword : (text : List ℕ) (k : Keyword) → Gives text (decls.behind_keyword k).Is (SaidHasNames text)
+behind_keyword text keyword.Agent = next (agent_text text) (λ a has. given (λ span. has))
+behind_keyword text keyword.Init = next (init_agents text) (λ some have. given (λ span. have))
+behind_keyword text keyword.Mod = skip (λ some. given (λ span. tt))
+behind_keyword text keyword.Skipped = skip (λ some. given (λ span. tt))
+
+declaration : (text : List ℕ) → Gives text decls.declaration.Is (SaidHasNames text)
+declaration text =
+    either (skip (λ k. behind_keyword text k))
+    (next {Q = λ rule. (span : Span) → FormHasNames text (rule span).form} (skip (λ n. next (body text) (λ form has. skip (λ rate. given (λ span. has))))) (λ rule has. given has))
 
 -- ---- the declarations of a text
 
 abbrev AllNamed : List ℕ → List Declaration → Type 0
 AllNamed text ds = AllByRecursion (λ (d : Declaration). AreNamed text d.words) ds
-
-either : (text : List ℕ) (b : Bool) (ds es : List Declaration) → AllNamed text ds → AllNamed text es → AllNamed text (if b then ds else es)
-either text true ds es first second = first
-either text false ds es first second = second
 
 ended_named : (text : List ℕ) (ws : List Word) (ending : ℕ) → AreNamed text ws → AllNamed text (ended ws ending)
 ended_named text [] ending named = tt
@@ -195,22 +224,20 @@ declarations_named text size depth done (w ∷ ws) before named =
     let split = AllByRecursion-append (λ (d : Declaration). AreNamed text d.words) (ended done w.span.start) (declarations_from size 0 [] ws) (ended_named text done w.span.start before) next in
     let passed = declarations_named text size depth done ws before named.1 in
     let taken = declarations_named text size (deeper w.kind depth) (done ++ w ∷ []) ws (AllByRecursion-append (IsNamed text) done (w ∷ []) before (named.0, tt)) named.1 in
-    either text (is_break w.kind)
+    chosen (AllNamed text) (is_break w.kind)
     (if ends_at depth (last_kind done) (next_kind ws) then ended done w.span.start ++ declarations_from size 0 [] ws else declarations_from size depth done ws)
     (declarations_from size (deeper w.kind depth) (done ++ w ∷ []) ws)
-    (either text (ends_at depth (last_kind done) (next_kind ws)) (ended done w.span.start ++ declarations_from size 0 [] ws) (declarations_from size depth done ws) split passed)
+    (chosen (AllNamed text) (ends_at depth (last_kind done) (next_kind ws)) (ended done w.span.start ++ declarations_from size 0 [] ws) (declarations_from size depth done ws) split passed)
     taken
 
-with_names : (text : List ℕ) (given : Option Decl) (decls : List Decl) → IfGiven (DeclHasNames text) given → AllByRecursion (DeclHasNames text) decls → AllByRecursion (DeclHasNames text) (with_declared given decls)
-with_names text None decls has all = all
-with_names text (Some d) decls has all = (has, all)
-
-parsed_names : (text : List ℕ) (ds : List Declaration) (decls : List Decl) → Parses text ds (Ok decls) → AllNamed text ds → AllByRecursion (DeclHasNames text) decls
-parsed_names text ds decls no_more named = tt
-parsed_names text ds decls (read {d = d} {ds = more} {decls = others} given is rest) named =
-    with_names text given others (declaration text d.words given is named.0) (parsed_names text more others rest named.1)
+parsed_names : (text : List ℕ) (ds : List Declaration) (trees : List Decl) → Parses text ds (Ok trees) → AllNamed text ds → AllByRecursion (DeclHasNames text) trees
+parsed_names text ds trees no_more named = tt
+parsed_names text ds trees (read {d = d} {ds = more} {decls = others} one (said, is, e) rest) named =
+    let all = parsed_names text more others rest named.1 in
+    by_given (λ o. AllByRecursion (DeclHasNames text) (with_declared o others)) all (λ d has. (has, all)) one
+    (subst (IfGiven (DeclHasNames text)) (sym e) ((declaration text).has d.words said is named.0 (decls.span_of d.words)))
 
 -- the names of a text's tree are names
-pub tree_names : (text : List ℕ) (tokens : List Token) (decls : List Decl) → IsLexed text (Ok tokens) → IsParsed text tokens (Ok decls) → AllByRecursion (DeclHasNames text) decls
-tree_names text tokens decls lexed parsed =
-    parsed_names text (declarations_of (length text) (words_of text tokens)) decls parsed.parses (declarations_named text (length text) 0 [] (words_of text tokens) tt (words_named text 0 tokens lexed.lexes))
+pub tree_names : (text : List ℕ) (tokens : List Token) (trees : List Decl) → IsLexed text (Ok tokens) → IsParsed text tokens (Ok trees) → AllByRecursion (DeclHasNames text) trees
+tree_names text tokens trees lexed parsed =
+    parsed_names text (declarations_of (length text) (words_of text tokens)) trees parsed.parses (declarations_named text (length text) 0 [] (words_of text tokens) tt (words_named text 0 tokens lexed.lexes))

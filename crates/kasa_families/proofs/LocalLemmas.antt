@@ -1,25 +1,21 @@
 -- The local state that a site of a mixture has, and that just this one is met there.
-use Rattle.std.proofs.Common.{◌≡◌, ℕ, zero, suc, ◌<◌, List, [], ◌∷◌, refl, sym, ◌∙◌, map, arith}
+use Rattle.std.proofs.Common.{◌≡◌, ℕ, zero, suc, ◌<◌, List, [], refl, sym, ◌∙◌, arith}
 use Rattle.std.specs.Prelude.{Option, Some, None, IsSome, slice_get}
 use Rattle.kasa_graph.specs.declared.mixture.Agent.{Agent}
 use Rattle.kasa_graph.specs.declared.pattern.Node.{Node}
 use Rattle.kasa_graph.specs.Signature.{TypeEntry}
-use Rattle.kasa_graph.specs.Lists.{AllDifferent}
 use Rattle.kasa_graph.specs.Signature.{state_counts, HasSite}
 use Rattle.kasa_graph.specs.Pattern.{HasNodeSite}
 use Rattle.kasa_graph.specs.Mixture.{type_in, state_in, partner_in, IsMixtureOver}
 use Rattle.kasa_graph.specs.Embedding.{IsEmbedding, MeetsState, MeetsLink}
-use Rattle.kasa_graph.proofs.ListLemmas.{AllDifferent-tail}
 use Rattle.kasa_graph.proofs.MixtureLemmas.{site_of_type, type_of_partner}
 use Rattle.kasa_graph.proofs.TestLemmas.{HasNodeSite-with_state}
 use Rattle.kasa_graph.proofs.EmbeddingLemmas.{IsEmbedding-with_state, IsEmbedding-with_link}
 use Rattle.kasa_families.specs.declared.row.LocalLink.{LocalLink}
 use Rattle.kasa_families.specs.declared.row.LocalLink.TheVariants.{Free, Partner}
 use Rattle.kasa_families.specs.declared.row.Local.{Local}
-use Rattle.kasa_families.specs.Row.{IsLocalState, IsLocalLink, IsLocal, AreLocals}
-use Rattle.kasa_families.specs.Pattern.{local_state_test, local_link_test, with_local, with_locals}
-use Rattle.kasa_families.specs.Seen.{link_to, link_seen, local_in}
-use Rattle.kasa_families.proofs.RowTests.{HasNodeSite-with_local, state_test-with_local_same, link_test-with_local_same, state_test-with_locals_at, link_test-with_locals_at}
+use Rattle.kasa_families.specs.Local.{IsLocalState, IsLocalLink, IsLocal, local_state_test, local_link_test, with_local}
+use Rattle.kasa_families.specs.Seen.{link_seen, local_in}
 
 -- a local state is met at a site
 pub record MeetsLocal (m : List (Option Agent)) (cells : List ℕ) (c s : ℕ) (l : Local) : Type 0 where
@@ -86,40 +82,3 @@ IsEmbedding-with_local g m cells n s c l has here met emb =
     IsEmbedding-with_link _ m cells
     (IsEmbedding-with_state g m cells emb n s (local_state_test l.state) has (λ d there. let same : c ≡ d = cc in rw same at met.state))
     n s (local_link_test l.link) (HasNodeSite-with_state g n s n s (local_state_test l.state) has) (λ d there. let same : c ≡ d = cc in rw same at met.link)
-
--- the local states of a pattern that is embedded are met
-module _ (g : List Node) (m : List (Option Agent)) (cells : List ℕ) (n c : ℕ) (here : slice_get cells n ≡ Some c) where
-  pub MeetsLocal-with_local : (s : ℕ) (l : Local) → HasNodeSite g n s → IsEmbedding (with_local g n s l) m cells → MeetsLocal m cells c s l
-  MeetsLocal-with_local s l has emb = record {
-    state = rw (state_test-with_local_same g n s l has) at (emb.states n c s here);
-    link = rw (link_test-with_local_same g n s l has) at (emb.links n c s here);
-  }
-
-  pub MeetsLocal-with_locals : (sites : List ℕ) (locals : List Local) → AllDifferent sites → IsEmbedding (with_locals g n sites locals) m cells → (i s : ℕ) (l : Local) → slice_get sites i ≡ Some s → slice_get locals i ≡ Some l → HasNodeSite g n s → MeetsLocal m cells c s l
-  MeetsLocal-with_locals sites locals different emb i s l is_s is_l has = record {
-    state = rw (state_test-with_locals_at g n sites locals i s l different is_s is_l has) at (emb.states n c s here);
-    link = rw (link_test-with_locals_at g n sites locals i s l different is_s is_l has) at (emb.links n c s here);
-  }
-
-module _ (sig : List TypeEntry) (m : List (Option Agent)) (over : IsMixtureOver sig m) (cells : List ℕ) (n c a : ℕ) (here : slice_get cells n ≡ Some c) (typed : type_in m c ≡ Some a) where
-  -- the local states of the sites are valid, and met
-  pub AreLocals-local_in : (sites : List ℕ) → ((i s : ℕ) → slice_get sites i ≡ Some s → HasSite sig a s) → AreLocals sig a sites (map (local_in m c) sites)
-  AreLocals-local_in [] has = tt
-  AreLocals-local_in (s ∷ sites) has = (IsLocal-local_in sig m over c a s typed (has zero s refl), AreLocals-local_in sites (λ i. has (suc i)))
-
-  pub IsEmbedding-with_locals : (g : List Node) (sites : List ℕ) → ((i s : ℕ) → slice_get sites i ≡ Some s → HasNodeSite g n s) → IsEmbedding g m cells → IsEmbedding (with_locals g n sites (map (local_in m c) sites)) m cells
-  IsEmbedding-with_locals g [] has emb = emb
-  IsEmbedding-with_locals g (s ∷ sites) has emb =
-      IsEmbedding-with_locals (with_local g n s (local_in m c s)) sites (λ i t e. HasNodeSite-with_local g n s (local_in m c s) n t (has (suc i) t e))
-      (IsEmbedding-with_local g m cells n s c (local_in m c s) (has zero s refl) here (MeetsLocal-local_in sig m over cells c s) emb)
-
-  -- and no others are
-  pub locals_in-only : (g : List Node) (sites : List ℕ) (locals : List Local) → AllDifferent sites → ((i s : ℕ) → slice_get sites i ≡ Some s → HasNodeSite g n s) → ((i s : ℕ) → slice_get sites i ≡ Some s → HasSite sig a s) → AreLocals sig a sites locals → IsEmbedding (with_locals g n sites locals) m cells → locals ≡ map (local_in m c) sites
-  locals_in-only g [] [] different has sited ok emb = refl
-  locals_in-only g [] (l ∷ locals) different has sited ok emb = absurd ok
-  locals_in-only g (s ∷ sites) [] different has sited ok emb = absurd ok
-  locals_in-only g (s ∷ sites) (l ∷ locals) different has sited ok emb =
-      let met = MeetsLocal-with_locals g m cells n c here (s ∷ sites) (l ∷ locals) different emb zero s l refl refl (has zero s refl) in
-      let first = local_in-only sig m over cells c a s l typed (sited zero s refl) ok.0 met in
-      let rest = locals_in-only (with_local g n s l) sites locals (AllDifferent-tail s sites different) (λ i t e. HasNodeSite-with_local g n s l n t (has (suc i) t e)) (λ i. sited (suc i)) ok.1 emb in
-      rw (first, rest)

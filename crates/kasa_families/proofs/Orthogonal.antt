@@ -1,133 +1,42 @@
 -- Roots are orthogonal: each embedding of a root extends to one of just one valid row, in just one way.
-use Rattle.std.proofs.Common.{◌≡◌, ◌≢◌, ℕ, zero, suc, ◌⊎◌, inl, inr, List, [], ◌∷◌, ◌++◌, refl, sym, ap, ◌∙◌, length, map, arith}
+use Rattle.std.proofs.Common.{◌≡◌, ◌≢◌, ℕ, zero, suc, ◌⊎◌, inl, inr, List, [], ◌∷◌, ◌++◌, refl, sym, ap, ◌∙◌, length, arith}
 use Rattle.std.specs.Prelude.{Option, Some, slice_get}
+use Rattle.std.specs.List.{AllByRecursion}
 use Rattle.kasa_graph.specs.declared.mixture.Agent.{Agent}
 use Rattle.kasa_graph.specs.declared.pattern.Node.{Node}
 use Rattle.kasa_graph.specs.Signature.{TypeEntry}
 use Rattle.kasa_graph.specs.declared.pattern.LinkTest.TheVariants.{Partner, To}
-use Rattle.kasa_graph.specs.Pattern.{blank_node, types_of, HasNodeSite}
 use Rattle.kasa_graph.specs.Mixture.{type_in, partner_in, IsMixtureOver}
 use Rattle.kasa_graph.specs.Embedding.{IsEmbedding, MeetsLink}
 use Rattle.kasa_graph.proofs.ListLemmas.{same_or_not, AllDifferent-[], AllDifferent-cons}
-use Rattle.kasa_graph.proofs.TestLemmas.{agent_at-types, length-types, types_of-blank, HasNodeSite-blank, HasNodeSite-with_bond}
+use Rattle.kasa_graph.proofs.TestLemmas.{HasNodeSite-blank, HasNodeSite-with_bond}
 use Rattle.kasa_graph.proofs.EmbeddingLemmas.{IsEmbedding-blank, IsEmbedding-with_bond}
 use Rattle.kasa_families.specs.declared.family.Family.{Family}
-use Rattle.kasa_families.specs.declared.family.Family.TheVariants.{View, Across, Parallel}
+use Rattle.kasa_families.specs.declared.family.Family.TheVariants.{Parallel}
 use Rattle.kasa_families.specs.declared.row.Local.{Local}
 use Rattle.kasa_families.specs.declared.row.Row.{Row}
 use Rattle.kasa_families.specs.declared.row.Row.TheVariants.{Locals, Same, Different}
-use Rattle.kasa_families.specs.Family.{IsFamily, root}
+use Rattle.kasa_families.specs.Shape.{pattern_of, AreColumns}
+use Rattle.kasa_families.specs.Family.{IsFamily, shape_of, same, different, root}
 use Rattle.kasa_families.specs.Row.{IsRow}
-use Rattle.kasa_families.specs.Pattern.{row_pattern, with_local}
-use Rattle.kasa_families.specs.Orthogonal.{ExtendsOnce}
-use Rattle.kasa_families.proofs.RowTests.{AllDifferent-ascends}
-use Rattle.kasa_families.proofs.RowPattern.{types_of-view, types_of-across_root, types_of-across, types_of-parallel_root, types_of-same, types_of-different, HasNodeSite-across_first, HasNodeSite-across_second, state_test-across_first, link_test-across_first, state_test-across_second, link_test-across_second, link_test-parallel_root_first, link_test-parallel_root_second, link_test-same_first, link_test-same_second, link_test-different_first, link_test-different_second}
-use Rattle.kasa_families.specs.Seen.{local_in}
-use Rattle.kasa_families.proofs.LocalLemmas.{MeetsLocal, local_in-only, IsLocal-local_in, MeetsLocal-local_in, IsEmbedding-with_local, AreLocals-local_in, IsEmbedding-with_locals, locals_in-only}
+use Rattle.kasa_families.specs.Pattern.{row_pattern}
+use Rattle.kasa_families.specs.Orthogonal.{ShapeExtendsOnce, ExtendsOnce}
+use Rattle.kasa_families.proofs.ColumnLemmas.{types_of-root, TestsBond}
+use Rattle.kasa_families.proofs.FamilyShape.{IsShape-of, IsShape-same, IsShape-different}
+use Rattle.kasa_families.proofs.RowPattern.{types_of-parallel_root, link_test-parallel_root_first, link_test-parallel_root_second, TestsBond-root_of}
+use Rattle.kasa_families.proofs.ShapeOnce.{length-cells, type_in-cells, append-[], shape_extends_once}
 
--- ---- how many cells there are, and of which types
-
--- the types of the nodes are those of the cells
-module _ (g : List Node) (types : List ℕ) (same : types_of g ≡ types) (m : List (Option Agent)) (cells : List ℕ) (emb : IsEmbedding g m cells) where
-  pub length-cells : length cells ≡ length types
-  length-cells = emb.count ∙ length-types g ∙ ap length same
-
-  pub type_in-cells : (n c a : ℕ) → slice_get cells n ≡ Some c → slice_get types n ≡ Some a → type_in m c ≡ Some a
-  type_in-cells n c a here is = emb.types n c a here (agent_at-types g n ∙ ap (λ (ts : List ℕ). slice_get ts n) same ∙ is)
-
-no_more : (xs : List ℕ) → length xs ≡ 0 → xs ≡ []
-no_more [] e = refl
-no_more (x ∷ xs) e = absurd (omega arith)
+no_cells : (xs : List ℕ) → length xs ≡ 0 → xs ≡ []
+no_cells [] e = refl
+no_cells (x ∷ xs) e = absurd (omega arith)
 
 just_one : (xs : List ℕ) (x : ℕ) → length xs ≡ 1 → slice_get xs 0 ≡ Some x → xs ≡ x ∷ []
 just_one [] x e f = absurd cc
-just_one (y ∷ xs) x e f = let same : y ≡ x = cc in rw (same, no_more xs (omega arith))
+just_one (y ∷ xs) x e f = let same : y ≡ x = cc in rw (same, no_cells xs (omega arith))
 
 just_two : (xs : List ℕ) (x y : ℕ) → length xs ≡ 2 → slice_get xs 0 ≡ Some x → slice_get xs 1 ≡ Some y → xs ≡ x ∷ y ∷ []
 just_two [] x y e f g = absurd cc
 just_two (z ∷ xs) x y e f g = let same : z ≡ x = cc in rw (same, just_one xs y (omega arith) g)
-
--- ---- views
-
-view_once : (sig : List TypeEntry) (m : List (Option Agent)) → IsMixtureOver sig m → (a : ℕ) (sites cells : List ℕ) → IsFamily sig (View a sites) → IsEmbedding (root sig (View a sites)) m cells → ExtendsOnce sig (View a sites) m cells
-view_once sig m over a sites [] ok emb = absurd (let e = emb.count in omega arith)
-view_once sig m over a sites (c ∷ d ∷ cells) ok emb = absurd (let e = emb.count in omega arith)
-view_once sig m over a sites (c ∷ []) ok emb = record {
-  row = Locals (map (local_in m c) sites);
-  valid = AreLocals-local_in sig m over (c ∷ []) 0 c a refl typed sites ok.1;
-  more = [];
-  embedded = IsEmbedding-with_locals sig m over (c ∷ []) 0 c a refl typed (blank_node sig a ∷ []) sites has emb;
-  only = one;
-}
-  where
-    typed : type_in m c ≡ Some a
-    typed = type_in-cells (blank_node sig a ∷ []) (a ∷ []) (types_of-blank sig (a ∷ [])) m (c ∷ []) emb 0 c a refl refl
-
-    has : (i s : ℕ) → slice_get sites i ≡ Some s → HasNodeSite (blank_node sig a ∷ []) 0 s
-    has i s e = HasNodeSite-blank sig (a ∷ []) 0 s a refl (ok.1 i s e)
-
-    one : (other : Row) (others : List ℕ) → IsRow sig (View a sites) other → IsEmbedding (row_pattern sig (View a sites) other) m (c ∷ others) → (other ≡ Locals (map (local_in m c) sites)) × (others ≡ [])
-    one (Locals locals) others valid' emb' = (
-      ap Locals (locals_in-only sig m over (c ∷ others) 0 c a refl typed (blank_node sig a ∷ []) sites locals (AllDifferent-ascends sites ok.2) has ok.1 valid' emb'),
-      no_more others (let count = length-cells _ (a ∷ []) (types_of-view sig a sites locals) m (c ∷ others) emb' in omega arith),
-    )
-    one Same others valid' emb' = absurd valid'
-    one Different others valid' emb' = absurd valid'
-
--- ---- across a bond
-
-module _ (sig : List TypeEntry) (m : List (Option Agent)) (over : IsMixtureOver sig m) (a x p b y q : ℕ) (ok : IsFamily sig (Across a x p b y q)) where
-  abbrev bonded : List Node
-  bonded = root sig (Across a x p b y q)
-
-  -- both local states of a row are met
-  pub MeetsLocal-across : (c d : ℕ) (others : List ℕ) (l k : Local) → IsEmbedding (with_local (with_local bonded 0 p l) 1 q k) m (c ∷ d ∷ others) → MeetsLocal m (c ∷ d ∷ others) c p l × MeetsLocal m (c ∷ d ∷ others) d q k
-  MeetsLocal-across c d others l k emb = (
-    record {
-      state = rw (state_test-across_first sig a x p b y q ok l k) at (emb.states 0 c p refl);
-      link = rw (link_test-across_first sig a x p b y q ok l k) at (emb.links 0 c p refl);
-    },
-    record {
-      state = rw (state_test-across_second sig a x p b y q ok l k) at (emb.states 1 d q refl);
-      link = rw (link_test-across_second sig a x p b y q ok l k) at (emb.links 1 d q refl);
-    },
-  )
-
-  across_at : (c d : ℕ) → IsEmbedding bonded m (c ∷ d ∷ []) → ExtendsOnce sig (Across a x p b y q) m (c ∷ d ∷ [])
-  across_at c d emb = record {
-    row = Locals (local_in m c p ∷ local_in m d q ∷ []);
-    valid = (IsLocal-local_in sig m over c a p first ok.1, IsLocal-local_in sig m over d b q second ok.3);
-    more = [];
-    embedded = IsEmbedding-with_local (with_local bonded 0 p (local_in m c p)) m (c ∷ d ∷ []) 1 q d (local_in m d q) (HasNodeSite-across_second sig a x p b y q ok (local_in m c p)) refl (MeetsLocal-local_in sig m over (c ∷ d ∷ []) d q)
-        (IsEmbedding-with_local bonded m (c ∷ d ∷ []) 0 p c (local_in m c p) (HasNodeSite-across_first sig a x p b y q ok) refl (MeetsLocal-local_in sig m over (c ∷ d ∷ []) c p) emb);
-    only = one;
-  }
-    where
-      first : type_in m c ≡ Some a
-      first = type_in-cells bonded (a ∷ b ∷ []) (types_of-across_root sig a x p b y q) m (c ∷ d ∷ []) emb 0 c a refl refl
-
-      second : type_in m d ≡ Some b
-      second = type_in-cells bonded (a ∷ b ∷ []) (types_of-across_root sig a x p b y q) m (c ∷ d ∷ []) emb 1 d b refl refl
-
-      one : (other : Row) (others : List ℕ) → IsRow sig (Across a x p b y q) other → IsEmbedding (row_pattern sig (Across a x p b y q) other) m (c ∷ d ∷ others) → (other ≡ Locals (local_in m c p ∷ local_in m d q ∷ [])) × (others ≡ [])
-      one (Locals (l ∷ k ∷ [])) others valid' emb' =
-          let met = MeetsLocal-across c d others l k emb' in
-          let is_first = local_in-only sig m over (c ∷ d ∷ others) c a p l first ok.1 valid'.0 met.0 in
-          let is_second = local_in-only sig m over (c ∷ d ∷ others) d b q k second ok.3 valid'.1 met.1 in (
-            rw (is_first, is_second),
-            no_more others (let count = length-cells _ (a ∷ b ∷ []) (types_of-across sig a x p b y q l k) m (c ∷ d ∷ others) emb' in omega arith),
-          )
-      one (Locals []) others valid' emb' = absurd valid'
-      one (Locals (l ∷ [])) others valid' emb' = absurd valid'
-      one (Locals (l ∷ k ∷ j ∷ locals)) others valid' emb' = absurd valid'
-      one Same others valid' emb' = absurd valid'
-      one Different others valid' emb' = absurd valid'
-
-  across_once : (cells : List ℕ) → IsEmbedding bonded m cells → ExtendsOnce sig (Across a x p b y q) m cells
-  across_once (c ∷ d ∷ []) emb = across_at c d emb
-  across_once [] emb = absurd (let e = length-cells bonded (a ∷ b ∷ []) (types_of-across_root sig a x p b y q) m [] emb in omega arith)
-  across_once (c ∷ []) emb = absurd (let e = length-cells bonded (a ∷ b ∷ []) (types_of-across_root sig a x p b y q) m (c ∷ []) emb in omega arith)
-  across_once (c ∷ d ∷ e ∷ cells) emb = absurd (let h = length-cells bonded (a ∷ b ∷ []) (types_of-across_root sig a x p b y q) m (c ∷ d ∷ e ∷ cells) emb in omega arith)
 
 -- ---- parallel bonds
 
@@ -149,20 +58,27 @@ module _ (sig : List TypeEntry) (m : List (Option Agent)) (over : IsMixtureOver 
     rw (link_test-parallel_root_second sig a x u b y w ok) at (emb.links 0 c u refl),
   )
 
+  -- what the rows test
+  same_bonds : AllByRecursion (TestsBond (row_pattern sig (Parallel a x u b y w) Same)) (same a x u b y w).bonds
+  same_bonds = TestsBond-root_of sig (same a x u b y w) (IsShape-same sig a x u b y w ok)
+
+  different_bonds : AllByRecursion (TestsBond (row_pattern sig (Parallel a x u b y w) Different)) (different a x u b y w).bonds
+  different_bonds = TestsBond-root_of sig (different a x u b y w) (IsShape-different sig a x u b y w ok)
+
   -- the cells of a row are those of the partners
   pub same_leads : (c : ℕ) (others : List ℕ) (d e : ℕ) → partner_in m c x ≡ Some (d, y) → partner_in m c u ≡ Some (e, w) → IsEmbedding (row_pattern sig (Parallel a x u b y w) Same) m (c ∷ others) → (others ≡ d ∷ []) × (d ≡ e)
   same_leads c others d e first second emb =
-      let at_x = bond_leads m (c ∷ others) _ d y 1 y first (rw (link_test-same_first sig a x u b y w ok) at (emb.links 0 c x refl)) in
-      let at_u = bond_leads m (c ∷ others) _ e w 1 w second (rw (link_test-same_second sig a x u b y w ok) at (emb.links 0 c u refl)) in (
-        just_one others d (let count = length-cells _ (a ∷ b ∷ []) (types_of-same sig a x u b y w) m (c ∷ others) emb in omega arith) at_x,
+      let at_x = bond_leads m (c ∷ others) _ d y 1 y first (rw same_bonds.0.first at (emb.links 0 c x refl)) in
+      let at_u = bond_leads m (c ∷ others) _ e w 1 w second (rw same_bonds.1.0.first at (emb.links 0 c u refl)) in (
+        just_one others d (let count = length-cells _ (a ∷ b ∷ []) (types_of-root sig (same a x u b y w)) m (c ∷ others) emb in omega arith) at_x,
         cc,
       )
 
   pub different_leads : (c : ℕ) (others : List ℕ) (d e : ℕ) → partner_in m c x ≡ Some (d, y) → partner_in m c u ≡ Some (e, w) → IsEmbedding (row_pattern sig (Parallel a x u b y w) Different) m (c ∷ others) → (others ≡ d ∷ e ∷ []) × (d ≢ e)
   different_leads c others d e first second emb =
-      let at_x = bond_leads m (c ∷ others) _ d y 1 y first (rw (link_test-different_first sig a x u b y w ok) at (emb.links 0 c x refl)) in
-      let at_u = bond_leads m (c ∷ others) _ e w 2 w second (rw (link_test-different_second sig a x u b y w ok) at (emb.links 0 c u refl)) in (
-        just_two others d e (let count = length-cells _ (a ∷ b ∷ b ∷ []) (types_of-different sig a x u b y w) m (c ∷ others) emb in omega arith) at_x at_u,
+      let at_x = bond_leads m (c ∷ others) _ d y 1 y first (rw different_bonds.0.first at (emb.links 0 c x refl)) in
+      let at_u = bond_leads m (c ∷ others) _ e w 2 w second (rw different_bonds.1.0.first at (emb.links 0 c u refl)) in (
+        just_two others d e (let count = length-cells _ (a ∷ b ∷ b ∷ []) (types_of-root sig (different a x u b y w)) m (c ∷ others) emb in omega arith) at_x at_u,
         λ same. let clash = emb.different 1 2 d at_x (at_u ∙ ap Some (sym same)) in omega arith,
       )
 
@@ -233,10 +149,29 @@ module _ (sig : List TypeEntry) (m : List (Option Agent)) (over : IsMixtureOver 
 
 -- ---- all kinds
 
+-- what the law on the shape of a family says of its rows, where these are lists of local states alone
+module _ (sig : List TypeEntry) (family : Family) (m : List (Option Agent)) (cells : List ℕ)
+    (to : (locals : List Local) → AreColumns sig (shape_of family).types (shape_of family).columns locals → IsRow sig family (Locals locals))
+    (from : (row : Row) → IsRow sig family row → (locals : List Local) × (row ≡ Locals locals) × AreColumns sig (shape_of family).types (shape_of family).columns locals)
+    (pattern_is : (locals : List Local) → row_pattern sig family (Locals locals) ≡ pattern_of sig (shape_of family) locals) where
+  by_shape : ShapeExtendsOnce sig (shape_of family) m cells → ExtendsOnce sig family m cells
+  by_shape once = record {
+    row = Locals once.locals;
+    valid = to once.locals once.valid;
+    more = [];
+    embedded = rw (pattern_is once.locals, append-[]) once.embedded;
+    only = λ other others valid emb.
+        let row = from other valid in
+        let alike = once.only row.0 others row.2 (rw (row.1, pattern_is row.0) at emb) in
+        (row.1 ∙ ap Locals alike.0, alike.1);
+  }
+
 pub root_extends_once : (sig : List TypeEntry) (family : Family) (m : List (Option Agent)) (cells : List ℕ) → IsFamily sig family → IsMixtureOver sig m → IsEmbedding (root sig family) m cells → ExtendsOnce sig family m cells
-root_extends_once sig (View a sites) m cells ok over emb = view_once sig m over a sites cells ok emb
-root_extends_once sig (Across a x p b y q) m cells ok over emb = across_once sig m over a x p b y q ok cells emb
 root_extends_once sig (Parallel a x u b y w) m cells ok over emb = parallel_once sig m over a x u b y w ok cells emb
+root_extends_once sig family m cells ok over emb =
+    by_shape sig family m cells (λ locals valid. valid)
+    (λ row. elim row as (λ row. IsRow sig family row → (locals : List Local) × (row ≡ Locals locals) × AreColumns sig (shape_of family).types (shape_of family).columns locals) [ Locals locals ↦ λ valid. (locals, refl, valid) | Same ↦ λ valid. absurd valid | Different ↦ λ valid. absurd valid ])
+    (λ locals. refl) (shape_extends_once sig (shape_of family) m cells (IsShape-of sig family ok) over emb)
 
 -- two valid rows to which the cells extend are equal, and so are the extensions
 pub extensions_alike : (sig : List TypeEntry) (family : Family) (m : List (Option Agent)) (cells : List ℕ) → ExtendsOnce sig family m cells → (row other : Row) (more others : List ℕ) → IsRow sig family row → IsRow sig family other → IsEmbedding (row_pattern sig family row) m (cells ++ more) → IsEmbedding (row_pattern sig family other) m (cells ++ others) → (row ≡ other) × (more ≡ others)

@@ -1,54 +1,40 @@
 -- The patterns of roots and rows are valid over the signature.
-use Rattle.std.proofs.Common.{◌≡◌, ◌≢◌, ℕ, zero, suc, ◌<◌, inl, inr, List, [], ◌∷◌, length, map, refl, sym, ◌∙◌, arith}
+use Rattle.std.proofs.Common.{◌≡◌, ℕ, zero, suc, ◌<◌, List, [], ◌∷◌, ◌++◌, length, map, refl, ap, ◌∙◌}
 use Rattle.std.specs.Prelude.{Option, Some, None, slice_get}
-use Rattle.std.specs.Option.{option_map_or}
+use Rattle.std.specs.List.{AllByRecursion}
 use Rattle.kasa_graph.specs.declared.pattern.StateTest.TheVariants as state
 use Rattle.kasa_graph.specs.declared.pattern.LinkTest.TheVariants as link
 use Rattle.kasa_graph.specs.declared.pattern.Node.{Node}
-use Rattle.kasa_graph.specs.Signature.{TypeEntry, sites_of, state_counts, HasSite, HasState}
-use Rattle.kasa_graph.specs.Pattern.{agent_at, link_test, HasNodeSite, IsNoBond, blank_node, with_link, with_bond, IsPatternOver}
-use Rattle.kasa_graph.proofs.PatternLemmas.{same_site_or_not, link_test-with_link_other, HasNodeSite-with_link, link_test-with_state}
-use Rattle.kasa_graph.proofs.TestLemmas.{agent_at-same, types_of-blank, HasNodeSite-with_state, HasNodeSite-with_bond, HasNodeSite-blank, link_test-blank, link_test-with_bond_other}
+use Rattle.kasa_graph.specs.Signature.{TypeEntry, state_counts, HasSite, HasState}
+use Rattle.kasa_graph.specs.Pattern.{agent_at, link_test, types_of, HasNodeSite, IsNoBond, blank_node, with_link, IsPatternOver}
+use Rattle.kasa_graph.proofs.PatternLemmas.{link_test-with_link_other, HasNodeSite-with_link, link_test-with_state}
+use Rattle.kasa_graph.proofs.TestLemmas.{agent_at-types, HasNodeSite-with_state, HasNodeSite-blank, link_test-blank}
 use Rattle.kasa_graph.proofs.OverLemmas.{AreKnown-[], AreKnown, AreKnown-cons, IsPatternOver-blank, IsPatternOver-with_state, IsPatternOver-with_link, IsPatternOver-with_bond}
 use Rattle.kasa_families.specs.declared.family.Family.{Family}
-use Rattle.kasa_families.specs.declared.family.Family.TheVariants.{View, Across, Parallel}
+use Rattle.kasa_families.specs.declared.family.Family.TheVariants.{Parallel}
 use Rattle.kasa_families.specs.declared.row.LocalLink.{LocalLink}
 use Rattle.kasa_families.specs.declared.row.LocalLink.TheVariants.{Free, Partner}
 use Rattle.kasa_families.specs.declared.row.Local.{Local}
 use Rattle.kasa_families.specs.declared.row.Row.{Row}
 use Rattle.kasa_families.specs.declared.row.Row.TheVariants.{Locals, Same, Different}
-use Rattle.kasa_families.specs.Family.{IsFamily, root}
-use Rattle.kasa_families.specs.Join.{CanJoin}
-use Rattle.kasa_families.specs.Row.{IsLocalState, IsLocalLink, IsLocal, AreLocals, IsRow}
-use Rattle.kasa_families.specs.Pattern.{local_state_test, local_link_test, with_local, with_locals, row_pattern}
-use Rattle.kasa_families.proofs.RowTests.{types_of-with_local, HasNodeSite-with_local, link_test-with_local_same, link_test-with_local_other}
-use Rattle.kasa_families.proofs.RowPattern.{typed_of, types_of-across_root, HasNodeSite-across_first, HasNodeSite-across_second, link_test-across_root_other}
-
--- ---- types that the signature has
-
--- a type that has a site is one of the signature's
-pub HasSite-known : (sig : List TypeEntry) (a s : ℕ) → HasSite sig a s → a < length sig
-unfolding state_counts sites_of
-HasSite-known sig a s has = known sig a has
-  where
-    known : (types : List TypeEntry) (i : ℕ) → s < length (map (λ x. length x.states) (option_map_or (λ t. t.sites) (slice_get types i) [])) → i < length types
-    known [] i h = absurd (omega arith)
-    known (t ∷ types) zero h = omega arith
-    known (t ∷ types) (suc i) h = let below = known types i h in omega arith
+use Rattle.kasa_families.specs.declared.shape.NodeSite.{NodeSite}
+use Rattle.kasa_families.specs.declared.shape.Bond.{Bond}
+use Rattle.kasa_families.specs.Local.{IsLocalState, IsLocalLink, IsLocal, local_state_test, local_link_test, with_local}
+use Rattle.kasa_families.specs.Join.{IsOpen}
+use Rattle.kasa_families.specs.Shape.{Shape, ends, named, AreApart, IsShape, with_bonds, root_of, with_columns, pattern_of, AreColumns}
+use Rattle.kasa_families.specs.Family.{IsFamily, shape_of, root}
+use Rattle.kasa_families.specs.Row.{IsRow}
+use Rattle.kasa_families.specs.Pattern.{row_pattern}
+use Rattle.kasa_families.proofs.RowTests.{types_of-with_local}
+use Rattle.kasa_families.proofs.ColumnLemmas.{nth_of, All-at, same_site, types_of-root, All-left, AreApart-left, AreApart-right, bonded, AreOpen-with_bond, AreOpen-with_local, AreOpen-blank}
+use Rattle.kasa_families.proofs.LeftLemmas.{BondsLeft}
+use Rattle.kasa_families.proofs.FamilyShape.{IsShape-of, IsShape-same, IsShape-different, HasSite-known}
 
 -- ---- local states
 
 pub IsNoBond-local_link_test : (l : LocalLink) → IsNoBond (local_link_test l)
 IsNoBond-local_link_test Free = tt
 IsNoBond-local_link_test (Partner b y) = tt
-
--- where no site of a node has a bond to a node, none has one after a local state was put at a site
-pub IsNoBond-with_local : (g : List Node) (n s : ℕ) (l : Local) → HasNodeSite g n s → ((u : ℕ) → IsNoBond (link_test g n u)) → (u : ℕ) → IsNoBond (link_test (with_local g n s l) n u)
-IsNoBond-with_local g n s l has unbound u =
-    elim (same_site_or_not n s n u) [
-      | inl same ↦ rw (← same.1) (rw (link_test-with_local_same g n s l has) (IsNoBond-local_link_test l.link))
-      | inr other ↦ rw (link_test-with_local_other g n s l n u other) (unbound u)
-    ]
 
 tested_state : (sig : List TypeEntry) (a s u : ℕ) (k l : Option ℕ) → slice_get (state_counts sig a) s ≡ k → IsLocalState k l → local_state_test l ≡ state.Is u → HasState sig a s u
 tested_state sig a s u k None is ok e = absurd cc
@@ -63,88 +49,64 @@ tested_link : (sig : List TypeEntry) (l : LocalLink) (b y : ℕ) → IsLocalLink
 tested_link sig Free b y ok e = absurd cc
 tested_link sig (Partner c z) b y ok e = let type : c ≡ b = cc in let site : z ≡ y = cc in rw (type, site) at ok
 
-module _ (sig : List TypeEntry) (n a : ℕ) where
-  pub IsPatternOver-with_local : (g : List Node) (s : ℕ) (l : Local) → IsPatternOver sig g → agent_at g n ≡ Some a → HasNodeSite g n s → IsNoBond (link_test g n s) → IsLocal sig a s l → IsPatternOver sig (with_local g n s l)
-  IsPatternOver-with_local g s l over typed has unbound ok =
-      IsPatternOver-with_link sig _ n s (local_link_test l.link)
-      (IsPatternOver-with_state sig g n s (local_state_test l.state) over has (λ u b e is. let same : a ≡ b = cc in rw same at (tested_state sig a s u _ l.state refl ok.state e)))
-      (HasNodeSite-with_state g n s n s (local_state_test l.state) has)
-      (rw (link_test-with_state g n s (local_state_test l.state) n s) unbound) (IsNoBond-local_link_test l.link) (λ b y e. tested_link sig l.link b y ok.link e)
+IsPatternOver-with_local : (sig : List TypeEntry) (n a : ℕ) (g : List Node) (s : ℕ) (l : Local) → IsPatternOver sig g → agent_at g n ≡ Some a → HasNodeSite g n s → IsNoBond (link_test g n s) → IsLocal sig a s l → IsPatternOver sig (with_local g n s l)
+IsPatternOver-with_local sig n a g s l over typed has unbound ok =
+    IsPatternOver-with_link sig _ n s (local_link_test l.link)
+    (IsPatternOver-with_state sig g n s (local_state_test l.state) over has (λ u b e is. let same : a ≡ b = cc in rw same at (tested_state sig a s u _ l.state refl ok.state e)))
+    (HasNodeSite-with_state g n s n s (local_state_test l.state) has)
+    (rw (link_test-with_state g n s (local_state_test l.state) n s) unbound) (IsNoBond-local_link_test l.link) (λ b y e. tested_link sig l.link b y ok.link e)
 
-  pub IsPatternOver-with_locals : (g : List Node) (sites : List ℕ) (locals : List Local) → IsPatternOver sig g → agent_at g n ≡ Some a → ((i s : ℕ) → slice_get sites i ≡ Some s → HasNodeSite g n s) → ((s : ℕ) → IsNoBond (link_test g n s)) → AreLocals sig a sites locals → IsPatternOver sig (with_locals g n sites locals)
-  IsPatternOver-with_locals g [] locals over typed has unbound ok = over
-  IsPatternOver-with_locals g (s ∷ sites) [] over typed has unbound ok = over
-  IsPatternOver-with_locals g (s ∷ sites) (l ∷ locals) over typed has unbound ok =
-      IsPatternOver-with_locals (with_local g n s l) sites locals
-      (IsPatternOver-with_local g s l over typed (has zero s refl) (unbound s) ok.0)
-      (agent_at-same g (with_local g n s l) (types_of-with_local g n s l) n ∙ typed)
-      (λ i u e. HasNodeSite-with_local g n s l n u (has (suc i) u e))
-      (IsNoBond-with_local g n s l (has zero s refl) unbound) ok.1
+-- ---- shapes
 
--- ---- roots and rows
+module _ (sig : List TypeEntry) where
+  -- bonds between open sites; the columns stay open
+  IsPatternOver-with_bonds : (g : List Node) (bonds : List Bond) (columns : List NodeSite) → AreApart (ends bonds ++ columns) → AllByRecursion (IsOpen g) (ends bonds ++ columns) → IsPatternOver sig g → IsPatternOver sig (with_bonds g bonds) × AllByRecursion (IsOpen (with_bonds g bonds)) columns
+  IsPatternOver-with_bonds g [] columns apart are_open over = (over, are_open)
+  IsPatternOver-with_bonds g (b ∷ bonds) columns apart are_open over =
+      IsPatternOver-with_bonds (bonded g b) bonds columns apart.1.1 (AreOpen-with_bond g b (ends bonds ++ columns) apart.0.1 apart.1.0 are_open.1.1)
+      (IsPatternOver-with_bond sig g b.first.node b.first.site b.second.node b.second.site over are_open.0.0 are_open.1.0.0 (λ e f. apart.0.0 (same_site b.first b.second e f)) are_open.0.1 are_open.1.0.1)
+
+  IsPatternOver-with_columns : (types : List ℕ) (g : List Node) (columns : List NodeSite) (locals : List Local) → types_of g ≡ types → AreApart columns → AllByRecursion (IsOpen g) columns → AreColumns sig types columns locals → IsPatternOver sig g → IsPatternOver sig (with_columns g columns locals)
+  IsPatternOver-with_columns types g [] locals same apart are_open valid over = over
+  IsPatternOver-with_columns types g (s ∷ columns) [] same apart are_open valid over = over
+  IsPatternOver-with_columns types g (s ∷ columns) (l ∷ locals) same apart are_open valid over =
+      let a = nth_of types s.node (λ a. IsLocal sig a s.site l) valid.0 in
+      let typed : agent_at g s.node ≡ Some a.0 = agent_at-types g s.node ∙ ap (λ (ts : List ℕ). slice_get ts s.node) same ∙ a.1 in
+      IsPatternOver-with_columns types (with_local g s.node s.site l) columns locals (types_of-with_local g s.node s.site l ∙ same) apart.1 (AreOpen-with_local g s l columns apart.0 are_open.1) valid.1
+      (IsPatternOver-with_local sig s.node a.0 g s.site l over typed are_open.0.0 are_open.0.1 a.2)
+
+  module _ (shape : Shape) (ok : IsShape sig shape) where
+    pub AreKnown-shape : AreKnown sig shape.types
+    AreKnown-shape n a e = All-at (λ a. a < length sig) shape.types n a ok.types e
+
+    pub AreOpen-named : AllByRecursion (IsOpen (map (blank_node sig) shape.types)) (named shape)
+    AreOpen-named = AreOpen-blank sig shape.types (named shape) ok.sites
+
+    -- all bonds are left to put in
+    pub BondsLeft-root : BondsLeft (map (blank_node sig) shape.types) (map (blank_node sig) shape.types) shape.bonds shape.bonds
+    BondsLeft-root = record { same = refl; apart = AreApart-left (ends shape.bonds) shape.columns ok.apart; unbound = All-left (IsOpen (map (blank_node sig) shape.types)) (ends shape.bonds) shape.columns AreOpen-named }
+
+    over_root : IsPatternOver sig (root_of sig shape) × AllByRecursion (IsOpen (root_of sig shape)) shape.columns
+    over_root = IsPatternOver-with_bonds (map (blank_node sig) shape.types) shape.bonds shape.columns ok.apart AreOpen-named (IsPatternOver-blank sig shape.types AreKnown-shape)
+
+    pub IsPatternOver-root_of : IsPatternOver sig (root_of sig shape)
+    IsPatternOver-root_of = over_root.0
+
+    pub AreOpen-columns : AllByRecursion (IsOpen (root_of sig shape)) shape.columns
+    AreOpen-columns = over_root.1
+
+    pub IsPatternOver-pattern_of : (locals : List Local) → AreColumns sig shape.types shape.columns locals → IsPatternOver sig (pattern_of sig shape locals)
+    IsPatternOver-pattern_of locals valid =
+        IsPatternOver-with_columns shape.types (root_of sig shape) shape.columns locals (types_of-root sig shape) (AreApart-right (ends shape.bonds) shape.columns ok.apart) AreOpen-columns valid IsPatternOver-root_of
+
+-- ---- parallel families
 
 pub IsNoBond-blank : (sig : List TypeEntry) (types : List ℕ) (n s : ℕ) → IsNoBond (link_test (map (blank_node sig) types) n s)
 IsNoBond-blank sig types n s = rw (link_test-blank sig types n s) tt
 
-pub CanJoin-blank : (sig : List TypeEntry) (types : List ℕ) (n s m t a b : ℕ) → slice_get types n ≡ Some a → slice_get types m ≡ Some b → HasSite sig a s → HasSite sig b t → (n ≡ m → s ≢ t) → CanJoin (map (blank_node sig) types) n s m t
-CanJoin-blank sig types n s m t a b is_a is_b has_s has_t differ = record {
-  first = HasNodeSite-blank sig types n s a is_a has_s;
-  second = HasNodeSite-blank sig types m t b is_b has_t;
-  differ = differ;
-  first_unbound = IsNoBond-blank sig types n s;
-  second_unbound = IsNoBond-blank sig types m t;
-}
-
--- a bond elsewhere changes nothing
-pub CanJoin-with_bond : (g : List Node) (n s m t k u j v : ℕ) → CanJoin g k u j v → (n ≡ k → s ≢ u) → (m ≡ k → t ≢ u) → (n ≡ j → s ≢ v) → (m ≡ j → t ≢ v) → CanJoin (with_bond g n s m t) k u j v
-CanJoin-with_bond g n s m t k u j v can at_first also_first at_second also_second = record {
-  first = HasNodeSite-with_bond g n s m t k u can.first;
-  second = HasNodeSite-with_bond g n s m t j v can.second;
-  differ = can.differ;
-  first_unbound = rw (link_test-with_bond_other g n s m t k u at_first also_first) can.first_unbound;
-  second_unbound = rw (link_test-with_bond_other g n s m t j v at_second also_second) can.second_unbound;
-}
-
-pub IsPatternOver-joined : (sig : List TypeEntry) (g : List Node) (n s m t : ℕ) → IsPatternOver sig g → CanJoin g n s m t → IsPatternOver sig (with_bond g n s m t)
-IsPatternOver-joined sig g n s m t over can = IsPatternOver-with_bond sig g n s m t over can.first can.second can.differ can.first_unbound can.second_unbound
-
-module _ (sig : List TypeEntry) (a x p b y q : ℕ) (ok : IsFamily sig (Across a x p b y q)) where
-  pub AreKnown-across : AreKnown sig (a ∷ b ∷ [])
-  AreKnown-across = AreKnown-cons sig a (b ∷ []) (HasSite-known sig a x ok.0) (AreKnown-cons sig b [] (HasSite-known sig b y ok.2) (AreKnown-[] sig))
-
-  pub CanJoin-across : CanJoin (map (blank_node sig) (a ∷ b ∷ [])) 0 x 1 y
-  CanJoin-across = CanJoin-blank sig (a ∷ b ∷ []) 0 x 1 y a b refl refl ok.0 ok.2 (λ e. absurd (omega arith))
-
-  IsPatternOver-across_root : IsPatternOver sig (root sig (Across a x p b y q))
-  IsPatternOver-across_root = IsPatternOver-joined sig (map (blank_node sig) (a ∷ b ∷ [])) 0 x 1 y (IsPatternOver-blank sig (a ∷ b ∷ []) AreKnown-across) CanJoin-across
-
-  -- the sites of the local states have no bond to a node
-  pub IsNoBond-across_first : IsNoBond (link_test (root sig (Across a x p b y q)) 0 p)
-  IsNoBond-across_first = rw (link_test-across_root_other sig a x p b y q ok 0 p (λ _ e. ok.4 (sym e)) (λ e. absurd (omega arith))) tt
-
-  pub IsNoBond-across_second : IsNoBond (link_test (root sig (Across a x p b y q)) 1 q)
-  IsNoBond-across_second = rw (link_test-across_root_other sig a x p b y q ok 1 q (λ e. absurd (omega arith)) (λ _ e. ok.5 (sym e))) tt
-
-  pub HasNodeSite-across_root_second : HasNodeSite (root sig (Across a x p b y q)) 1 q
-  HasNodeSite-across_root_second = HasNodeSite-with_bond (map (blank_node sig) (a ∷ b ∷ [])) 0 x 1 y 1 q (HasNodeSite-blank sig (a ∷ b ∷ []) 1 q b refl ok.3)
-
-  IsPatternOver-across : (l k : Local) → IsLocal sig a p l → IsLocal sig b q k → IsPatternOver sig (row_pattern sig (Across a x p b y q) (Locals (l ∷ k ∷ [])))
-  IsPatternOver-across l k first second =
-      IsPatternOver-with_local sig 1 b (with_local (root sig (Across a x p b y q)) 0 p l) q k
-      (IsPatternOver-with_local sig 0 a (root sig (Across a x p b y q)) p l IsPatternOver-across_root (typed_of _ _ 0 a (types_of-across_root sig a x p b y q) refl) (HasNodeSite-across_first sig a x p b y q ok) IsNoBond-across_first first)
-      (typed_of _ _ 1 b (types_of-with_local _ 0 p l ∙ types_of-across_root sig a x p b y q) refl)
-      (HasNodeSite-across_second sig a x p b y q ok l)
-      (rw (link_test-with_local_other (root sig (Across a x p b y q)) 0 p l 1 q (λ e. absurd (omega arith))) IsNoBond-across_second) second
-
 module _ (sig : List TypeEntry) (a x u b y w : ℕ) (ok : IsFamily sig (Parallel a x u b y w)) where
-  pub AreKnown-parallel : AreKnown sig (a ∷ b ∷ b ∷ [])
-  AreKnown-parallel = AreKnown-cons sig a (b ∷ b ∷ []) (HasSite-known sig a x ok.0) (AreKnown-cons sig b (b ∷ []) (HasSite-known sig b y ok.2) (AreKnown-cons sig b [] (HasSite-known sig b y ok.2) (AreKnown-[] sig)))
-
   pub AreKnown-alone : AreKnown sig (a ∷ [])
   AreKnown-alone = AreKnown-cons sig a [] (HasSite-known sig a x ok.0) (AreKnown-[] sig)
-
-  pub AreKnown-pair : AreKnown sig (a ∷ b ∷ [])
-  AreKnown-pair = AreKnown-cons sig a (b ∷ []) (HasSite-known sig a x ok.0) (AreKnown-cons sig b [] (HasSite-known sig b y ok.2) (AreKnown-[] sig))
 
   -- the root's second test comes to a site without one
   pub HasNodeSite-parallel_second : HasNodeSite (with_link (map (blank_node sig) (a ∷ [])) 0 x (link.Partner b y)) 0 u
@@ -162,46 +124,15 @@ module _ (sig : List TypeEntry) (a x u b y w : ℕ) (ok : IsFamily sig (Parallel
       partner_known : (v : ℕ) → HasSite sig b v → (c z : ℕ) → link.Partner b v ≡ link.Partner c z → HasSite sig c z
       partner_known v has c z e = let type : b ≡ c = cc in let site : v ≡ z = cc in rw (type, site) at has
 
-  -- the bonds of a row lead to the second node, and to that or the third one
-  pub CanJoin-same_first : CanJoin (map (blank_node sig) (a ∷ b ∷ [])) 0 x 1 y
-  CanJoin-same_first = CanJoin-blank sig (a ∷ b ∷ []) 0 x 1 y a b refl refl ok.0 ok.2 (λ e. absurd (omega arith))
-
-  pub CanJoin-same_second : CanJoin (with_bond (map (blank_node sig) (a ∷ b ∷ [])) 0 x 1 y) 0 u 1 w
-  CanJoin-same_second =
-      CanJoin-with_bond _ 0 x 1 y 0 u 1 w (CanJoin-blank sig (a ∷ b ∷ []) 0 u 1 w a b refl refl ok.1 ok.3 (λ e. absurd (omega arith)))
-      (λ _. ok.5) (λ e. absurd (omega arith)) (λ e. absurd (omega arith)) (λ _. ok.6)
-
-  pub CanJoin-different_first : CanJoin (map (blank_node sig) (a ∷ b ∷ b ∷ [])) 0 x 1 y
-  CanJoin-different_first = CanJoin-blank sig (a ∷ b ∷ b ∷ []) 0 x 1 y a b refl refl ok.0 ok.2 (λ e. absurd (omega arith))
-
-  pub CanJoin-different_second : CanJoin (with_bond (map (blank_node sig) (a ∷ b ∷ b ∷ [])) 0 x 1 y) 0 u 2 w
-  CanJoin-different_second =
-      CanJoin-with_bond _ 0 x 1 y 0 u 2 w (CanJoin-blank sig (a ∷ b ∷ b ∷ []) 0 u 2 w a b refl refl ok.1 ok.3 (λ e. absurd (omega arith)))
-      (λ _. ok.5) (λ e. absurd (omega arith)) (λ e. absurd (omega arith)) (λ e. absurd (omega arith))
-
-  IsPatternOver-same : IsPatternOver sig (row_pattern sig (Parallel a x u b y w) Same)
-  IsPatternOver-same = IsPatternOver-joined sig _ 0 u 1 w (IsPatternOver-joined sig _ 0 x 1 y (IsPatternOver-blank sig (a ∷ b ∷ []) AreKnown-pair) CanJoin-same_first) CanJoin-same_second
-
-  IsPatternOver-different : IsPatternOver sig (row_pattern sig (Parallel a x u b y w) Different)
-  IsPatternOver-different = IsPatternOver-joined sig _ 0 u 2 w (IsPatternOver-joined sig _ 0 x 1 y (IsPatternOver-blank sig (a ∷ b ∷ b ∷ []) AreKnown-parallel) CanJoin-different_first) CanJoin-different_second
-
--- a row of an across family has two local states
-pub two_locals : (sig : List TypeEntry) (a x p b y q : ℕ) (locals : List Local) → IsRow sig (Across a x p b y q) (Locals locals) → (l k : Local) × (locals ≡ l ∷ k ∷ [])
-two_locals sig a x p b y q [] valid = absurd valid
-two_locals sig a x p b y q (l ∷ []) valid = absurd valid
-two_locals sig a x p b y q (l ∷ k ∷ []) valid = (l, k, refl)
-two_locals sig a x p b y q (l ∷ k ∷ j ∷ locals) valid = absurd valid
+-- ---- families
 
 pub IsPatternOver-root : (sig : List TypeEntry) (family : Family) → IsFamily sig family → IsPatternOver sig (root sig family)
-IsPatternOver-root sig (View a sites) ok = IsPatternOver-blank sig (a ∷ []) (AreKnown-cons sig a [] ok.0 (AreKnown-[] sig))
-IsPatternOver-root sig (Across a x p b y q) ok = IsPatternOver-across_root sig a x p b y q ok
 IsPatternOver-root sig (Parallel a x u b y w) ok = IsPatternOver-parallel_root sig a x u b y w ok
+IsPatternOver-root sig family ok = IsPatternOver-root_of sig (shape_of family) (IsShape-of sig family ok)
 
 pub IsPatternOver-row_pattern : (sig : List TypeEntry) (family : Family) (row : Row) → IsFamily sig family → IsRow sig family row → IsPatternOver sig (row_pattern sig family row)
-IsPatternOver-row_pattern sig (View a sites) (Locals locals) ok valid =
-    IsPatternOver-with_locals sig 0 a (map (blank_node sig) (a ∷ [])) sites locals (IsPatternOver-blank sig (a ∷ []) (AreKnown-cons sig a [] ok.0 (AreKnown-[] sig)))
-    (typed_of _ _ 0 a (types_of-blank sig (a ∷ [])) refl) (λ i s e. HasNodeSite-blank sig (a ∷ []) 0 s a refl (ok.1 i s e)) (IsNoBond-blank sig (a ∷ []) 0) valid
-IsPatternOver-row_pattern sig (Across a x p b y q) (Locals (l ∷ k ∷ [])) ok valid = IsPatternOver-across sig a x p b y q ok l k valid.0 valid.1
-IsPatternOver-row_pattern sig (Parallel a x u b y w) Same ok valid = IsPatternOver-same sig a x u b y w ok
-IsPatternOver-row_pattern sig (Parallel a x u b y w) Different ok valid = IsPatternOver-different sig a x u b y w ok
+IsPatternOver-row_pattern sig (Parallel a x u b y w) Same ok valid = IsPatternOver-root_of sig _ (IsShape-same sig a x u b y w ok)
+IsPatternOver-row_pattern sig (Parallel a x u b y w) Different ok valid = IsPatternOver-root_of sig _ (IsShape-different sig a x u b y w ok)
+IsPatternOver-row_pattern sig (Parallel a x u b y w) (Locals locals) ok valid = absurd valid
+IsPatternOver-row_pattern sig family (Locals locals) ok valid = IsPatternOver-pattern_of sig (shape_of family) (IsShape-of sig family ok) locals valid
 IsPatternOver-row_pattern sig family row ok valid = absurd valid

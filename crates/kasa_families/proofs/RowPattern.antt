@@ -1,7 +1,9 @@
--- The patterns of roots and rows of each kind: the types of their nodes, what they test at each site, that a row implies
--- its root, and that each later node has a bond to an earlier one.
-use Rattle.std.proofs.Common.{◌≡◌, ◌≢◌, ℕ, zero, suc, ◌<◌, inl, inr, List, [], ◌∷◌, refl, sym, ap, ◌∙◌, length, arith}
+-- The patterns of roots and rows: the types of their nodes, what they test at each site, that a row implies its root, and
+-- that each later node has a bond to an earlier one.
+use Rattle.std.proofs.Common.{◌≡◌, ◌≢◌, ℕ, suc, ◌<◌, inl, inr, List, [], ◌∷◌, refl, sym, ap, ◌∙◌, length, map, arith}
 use Rattle.std.specs.Prelude.{Some, slice_get}
+use Rattle.std.specs.List.{AllByRecursion, AllZip}
+use Rattle.std.proofs.lemmas.Slice.Zip.{AllZip-long}
 use Rattle.std.proofs.lemmas.Option.{slice_get_within}
 use Rattle.kasa_graph.proofs.ListLemmas.{some_map, some_at}
 use Rattle.kasa_graph.specs.declared.pattern.Node.{Node}
@@ -10,107 +12,48 @@ use Rattle.kasa_graph.specs.declared.pattern.StateTest.{StateTest}
 use Rattle.kasa_graph.specs.declared.pattern.StateTest.TheVariants as state
 use Rattle.kasa_graph.specs.declared.pattern.LinkTest.{LinkTest}
 use Rattle.kasa_graph.specs.declared.pattern.LinkTest.TheVariants.{Any, Free, Bound, Partner, To}
-use Rattle.kasa_graph.specs.Lists.{AllDifferent}
-use Rattle.kasa_graph.specs.Signature.{HasSite}
 use Rattle.kasa_graph.specs.Mixture.{agent_in, type_in}
-use Rattle.kasa_graph.specs.Pattern.{agent_at, state_test, link_test, types_of, HasNodeSite, StateImplies, LinkImplies}
-use Rattle.kasa_graph.proofs.TestLemmas.{agent_at-types, length-types, types_of-with_link, types_of-with_bond, types_of-blank, HasNodeSite-blank, HasNodeSite-with_bond, state_test-blank, link_test-blank, state_test-with_link, state_test-with_bond, link_test-with_bond_other, link_test-with_bond_first, link_test-with_bond_second, link_test-two_bonds_first, link_test-two_bonds_second}
+use Rattle.kasa_graph.specs.Pattern.{agent_at, state_test, link_test, types_of, blank_node, StateImplies, LinkImplies}
+use Rattle.kasa_graph.proofs.TestLemmas.{agent_at-types, length-types, types_of-with_link, types_of-blank, HasNodeSite-blank, state_test-blank, link_test-blank, state_test-with_link}
 use Rattle.kasa_graph.proofs.PatternLemmas.{same_site_or_not, link_test-with_link_same, link_test-with_link_other, HasNodeSite-with_link}
 use Rattle.kasa_graph.proofs.JoinedLemmas.{IsJoined}
 use Rattle.kasa_families.specs.declared.family.Family.{Family}
-use Rattle.kasa_families.specs.declared.family.Family.TheVariants.{View, Across, Parallel}
+use Rattle.kasa_families.specs.declared.family.Family.TheVariants.{Parallel}
 use Rattle.kasa_families.specs.declared.row.Local.{Local}
 use Rattle.kasa_families.specs.declared.row.Row.{Row}
 use Rattle.kasa_families.specs.declared.row.Row.TheVariants.{Locals, Same, Different}
-use Rattle.kasa_families.specs.Family.{IsFamily, root}
+use Rattle.kasa_families.specs.declared.shape.NodeSite.{NodeSite}
+use Rattle.kasa_families.specs.Shape.{Shape, at, ends, IsShape, root_of, pattern_of, AreColumns}
+use Rattle.kasa_families.specs.Family.{IsFamily, shape_of, same, different, root}
 use Rattle.kasa_families.specs.Row.{IsRow}
-use Rattle.kasa_families.specs.Pattern.{local_state_test, local_link_test, row_pattern, with_local, Occurs}
-use Rattle.kasa_families.proofs.RowTests.{types_of-with_local, types_of-with_locals, HasNodeSite-with_local, state_test-with_local_same, link_test-with_local_same, state_test-with_local_other, link_test-with_local_other, state_test-with_locals_at, link_test-with_locals_at, state_test-with_locals_other, link_test-with_locals_other}
+use Rattle.kasa_families.specs.Pattern.{row_pattern, Occurs}
+use Rattle.kasa_families.proofs.ColumnLemmas.{AreApart-right, columns_in_root, TestsLocal, TestsLocals-with_columns, All-at, All-left, AreApart-left, apart_from_left, apart_from_right, one_or_apart, second_end, IsIn, IsIn-root, All-to, types_of-root, types_of-pattern, SameTests-with_columns, SameTests-with_bonds, state_test-with_bonds, TestsBond, TestsBond-with_bonds}
+use Rattle.kasa_families.proofs.FamilyShape.{IsShape-of, IsShape-same, IsShape-different, some_types}
 
--- ---- types
+-- ---- what a shape's root tests
 
-pub types_of-view : (sig : List TypeEntry) (a : ℕ) (sites : List ℕ) (locals : List Local) → types_of (row_pattern sig (View a sites) (Locals locals)) ≡ a ∷ []
-types_of-view sig a sites locals = types_of-with_locals _ 0 sites locals ∙ types_of-blank sig (a ∷ [])
+module _ (sig : List TypeEntry) (shape : Shape) where
+  -- its bonds alone
+  pub state_test-root_of : (k v : ℕ) → state_test (root_of sig shape) k v ≡ state.Any
+  state_test-root_of k v = state_test-with_bonds _ shape.bonds k v ∙ state_test-blank sig shape.types k v
 
-module _ (sig : List TypeEntry) (a x p b y q : ℕ) where
-  pub types_of-across_root : types_of (root sig (Across a x p b y q)) ≡ a ∷ b ∷ []
-  types_of-across_root = types_of-with_bond _ 0 x 1 y ∙ types_of-blank sig (a ∷ b ∷ [])
+  pub link_test-root_of : (s : NodeSite) → AllByRecursion (λ t. s ≢ t) (ends shape.bonds) → link_test (root_of sig shape) s.node s.site ≡ Any
+  link_test-root_of s out = (SameTests-with_bonds (map (blank_node sig) shape.types) shape.bonds s out).link ∙ link_test-blank sig shape.types s.node s.site
 
-  pub types_of-across : (l k : Local) → types_of (row_pattern sig (Across a x p b y q) (Locals (l ∷ k ∷ []))) ≡ a ∷ b ∷ []
-  types_of-across l k = types_of-with_local _ 1 q k ∙ types_of-with_local _ 0 p l ∙ types_of-across_root
+  pub TestsBond-root_of : IsShape sig shape → AllByRecursion (TestsBond (root_of sig shape)) shape.bonds
+  TestsBond-root_of ok =
+      TestsBond-with_bonds (map (blank_node sig) shape.types) shape.bonds (AreApart-left (ends shape.bonds) shape.columns ok.apart)
+      (All-to _ (IsIn (map (blank_node sig) shape.types)) (ends shape.bonds) (IsIn-root sig (record { types = shape.types; bonds = []; columns = [] })) (All-left _ (ends shape.bonds) shape.columns ok.sites))
 
-module _ (sig : List TypeEntry) (a x u b y w : ℕ) where
-  pub types_of-parallel_root : types_of (root sig (Parallel a x u b y w)) ≡ a ∷ []
-  types_of-parallel_root = types_of-with_link _ 0 u (Partner b w) ∙ types_of-with_link _ 0 x (Partner b y) ∙ types_of-blank sig (a ∷ [])
+-- a row tests its local states at the columns
+pub TestsLocals-pattern_of : (sig : List TypeEntry) (shape : Shape) (locals : List Local) → IsShape sig shape → AreColumns sig shape.types shape.columns locals → AllZip (TestsLocal (pattern_of sig shape locals)) shape.columns locals
+TestsLocals-pattern_of sig shape locals ok valid =
+    TestsLocals-with_columns (root_of sig shape) shape.columns locals (AllZip-long _ shape.columns locals valid) (AreApart-right (ends shape.bonds) shape.columns ok.apart) (columns_in_root sig shape ok)
 
-  pub types_of-same : types_of (row_pattern sig (Parallel a x u b y w) Same) ≡ a ∷ b ∷ []
-  types_of-same = types_of-with_bond _ 0 u 1 w ∙ types_of-with_bond _ 0 x 1 y ∙ types_of-blank sig (a ∷ b ∷ [])
+-- ---- what a parallel family's root tests
 
-  pub types_of-different : types_of (row_pattern sig (Parallel a x u b y w) Different) ≡ a ∷ b ∷ b ∷ []
-  types_of-different = types_of-with_bond _ 0 u 2 w ∙ types_of-with_bond _ 0 x 1 y ∙ types_of-blank sig (a ∷ b ∷ b ∷ [])
-
--- ---- what a view's row tests
-
-module _ (sig : List TypeEntry) (a : ℕ) (sites : List ℕ) (locals : List Local) where
-  -- its local states at its sites, and nothing elsewhere
-  pub state_test-view : AllDifferent sites → (i s : ℕ) (l : Local) → slice_get sites i ≡ Some s → slice_get locals i ≡ Some l → HasSite sig a s → state_test (row_pattern sig (View a sites) (Locals locals)) 0 s ≡ local_state_test l.state
-  state_test-view different i s l is_s is_l has = state_test-with_locals_at _ 0 sites locals i s l different is_s is_l (HasNodeSite-blank sig (a ∷ []) 0 s a refl has)
-
-  pub link_test-view : AllDifferent sites → (i s : ℕ) (l : Local) → slice_get sites i ≡ Some s → slice_get locals i ≡ Some l → HasSite sig a s → link_test (row_pattern sig (View a sites) (Locals locals)) 0 s ≡ local_link_test l.link
-  link_test-view different i s l is_s is_l has = link_test-with_locals_at _ 0 sites locals i s l different is_s is_l (HasNodeSite-blank sig (a ∷ []) 0 s a refl has)
-
-  pub state_test-view_other : (k v : ℕ) → ((i : ℕ) → 0 ≡ k → slice_get sites i ≢ Some v) → state_test (row_pattern sig (View a sites) (Locals locals)) k v ≡ state.Any
-  state_test-view_other k v out = state_test-with_locals_other _ 0 sites locals k v out ∙ state_test-blank sig (a ∷ []) k v
-
-  pub link_test-view_other : (k v : ℕ) → ((i : ℕ) → 0 ≡ k → slice_get sites i ≢ Some v) → link_test (row_pattern sig (View a sites) (Locals locals)) k v ≡ Any
-  link_test-view_other k v out = link_test-with_locals_other _ 0 sites locals k v out ∙ link_test-blank sig (a ∷ []) k v
-
--- ---- what an across family's root and rows test
-
-module _ (sig : List TypeEntry) (a x p b y q : ℕ) (ok : IsFamily sig (Across a x p b y q)) where
-  pub HasNodeSite-across_first : HasNodeSite (root sig (Across a x p b y q)) 0 p
-  HasNodeSite-across_first = HasNodeSite-with_bond _ 0 x 1 y 0 p (HasNodeSite-blank sig (a ∷ b ∷ []) 0 p a refl ok.1)
-
-  pub HasNodeSite-across_second : (l : Local) → HasNodeSite (with_local (root sig (Across a x p b y q)) 0 p l) 1 q
-  HasNodeSite-across_second l = HasNodeSite-with_local _ 0 p l 1 q (HasNodeSite-with_bond _ 0 x 1 y 1 q (HasNodeSite-blank sig (a ∷ b ∷ []) 1 q b refl ok.3))
-
-  -- the root tests its bond alone
-  pub state_test-across_root : (k v : ℕ) → state_test (root sig (Across a x p b y q)) k v ≡ state.Any
-  state_test-across_root k v = state_test-with_bond _ 0 x 1 y k v ∙ state_test-blank sig (a ∷ b ∷ []) k v
-
-  pub link_test-across_root_first : link_test (root sig (Across a x p b y q)) 0 x ≡ To 1 y
-  link_test-across_root_first = link_test-with_bond_first _ 0 x 1 y (HasNodeSite-blank sig (a ∷ b ∷ []) 0 x a refl ok.0) (λ e. absurd (omega arith))
-
-  pub link_test-across_root_second : link_test (root sig (Across a x p b y q)) 1 y ≡ To 0 x
-  link_test-across_root_second = link_test-with_bond_second _ 0 x 1 y (HasNodeSite-blank sig (a ∷ b ∷ []) 1 y b refl ok.2)
-
-  pub link_test-across_root_other : (k v : ℕ) → (0 ≡ k → x ≢ v) → (1 ≡ k → y ≢ v) → link_test (root sig (Across a x p b y q)) k v ≡ Any
-  link_test-across_root_other k v first second = link_test-with_bond_other _ 0 x 1 y k v first second ∙ link_test-blank sig (a ∷ b ∷ []) k v
-
-  module _ (l j : Local) where
-    abbrev across : List Node
-    across = row_pattern sig (Across a x p b y q) (Locals (l ∷ j ∷ []))
-
-    -- a row tests its first local state at p, its second one at q, and else what the root tests
-    pub state_test-across_first : state_test across 0 p ≡ local_state_test l.state
-    state_test-across_first = state_test-with_local_other _ 1 q j 0 p (λ e. absurd (omega arith)) ∙ state_test-with_local_same _ 0 p l HasNodeSite-across_first
-
-    pub link_test-across_first : link_test across 0 p ≡ local_link_test l.link
-    link_test-across_first = link_test-with_local_other _ 1 q j 0 p (λ e. absurd (omega arith)) ∙ link_test-with_local_same _ 0 p l HasNodeSite-across_first
-
-    pub state_test-across_second : state_test across 1 q ≡ local_state_test j.state
-    state_test-across_second = state_test-with_local_same _ 1 q j (HasNodeSite-across_second l)
-
-    pub link_test-across_second : link_test across 1 q ≡ local_link_test j.link
-    link_test-across_second = link_test-with_local_same _ 1 q j (HasNodeSite-across_second l)
-
-    pub state_test-across_other : (k v : ℕ) → (0 ≡ k → p ≢ v) → (1 ≡ k → q ≢ v) → state_test across k v ≡ state_test (root sig (Across a x p b y q)) k v
-    state_test-across_other k v first second = state_test-with_local_other _ 1 q j k v second ∙ state_test-with_local_other _ 0 p l k v first
-
-    pub link_test-across_other : (k v : ℕ) → (0 ≡ k → p ≢ v) → (1 ≡ k → q ≢ v) → link_test across k v ≡ link_test (root sig (Across a x p b y q)) k v
-    link_test-across_other k v first second = link_test-with_local_other _ 1 q j k v second ∙ link_test-with_local_other _ 0 p l k v first
-
--- ---- what a parallel family's root and rows test
+pub types_of-parallel_root : (sig : List TypeEntry) (a x u b y w : ℕ) → types_of (root sig (Parallel a x u b y w)) ≡ a ∷ []
+types_of-parallel_root sig a x u b y w = types_of-with_link _ 0 u (Partner b w) ∙ types_of-with_link _ 0 x (Partner b y) ∙ types_of-blank sig (a ∷ [])
 
 module _ (sig : List TypeEntry) (a x u b y w : ℕ) (ok : IsFamily sig (Parallel a x u b y w)) where
   pub state_test-parallel_root : (k v : ℕ) → state_test (root sig (Parallel a x u b y w)) k v ≡ state.Any
@@ -125,31 +68,26 @@ module _ (sig : List TypeEntry) (a x u b y w : ℕ) (ok : IsFamily sig (Parallel
   pub link_test-parallel_root_other : (k v : ℕ) → (0 ≡ k → x ≢ v) → (0 ≡ k → u ≢ v) → link_test (root sig (Parallel a x u b y w)) k v ≡ Any
   link_test-parallel_root_other k v first second = link_test-with_link_other _ 0 u k v (Partner b w) second ∙ link_test-with_link_other _ 0 x k v (Partner b y) first ∙ link_test-blank sig (a ∷ []) k v
 
-  pub state_test-same : (k v : ℕ) → state_test (row_pattern sig (Parallel a x u b y w) Same) k v ≡ state.Any
-  state_test-same k v = state_test-with_bond _ 0 u 1 w k v ∙ state_test-with_bond _ 0 x 1 y k v ∙ state_test-blank sig (a ∷ b ∷ []) k v
+-- ---- the types of roots and rows
 
-  -- Same: both bonds of the first node lead to the second node
-  pub link_test-same_first : link_test (row_pattern sig (Parallel a x u b y w) Same) 0 x ≡ To 1 y
-  link_test-same_first = link_test-two_bonds_first _ 0 x u 1 y 1 w (HasNodeSite-blank sig (a ∷ b ∷ []) 0 x a refl ok.0) (HasNodeSite-blank sig (a ∷ b ∷ []) 0 u a refl ok.1) (λ h. omega arith) (λ h. omega arith) ok.5
+abbrev pub root_types : Family → List ℕ
+root_types (Parallel a x u b y w) = a ∷ []
+root_types family = (shape_of family).types
 
-  pub link_test-same_second : link_test (row_pattern sig (Parallel a x u b y w) Same) 0 u ≡ To 1 w
-  link_test-same_second = link_test-two_bonds_second _ 0 x u 1 y 1 w (HasNodeSite-blank sig (a ∷ b ∷ []) 0 x a refl ok.0) (HasNodeSite-blank sig (a ∷ b ∷ []) 0 u a refl ok.1) (λ h. omega arith) (λ h. omega arith) ok.5
+pub types_of-family_root : (sig : List TypeEntry) (family : Family) → types_of (root sig family) ≡ root_types family
+types_of-family_root sig (Parallel a x u b y w) = types_of-parallel_root sig a x u b y w
+types_of-family_root sig family = types_of-root sig (shape_of family)
 
-  pub link_test-same_other : (k v : ℕ) → (0 ≡ k → x ≢ v) → (0 ≡ k → u ≢ v) → (1 ≡ k → y ≢ v) → (1 ≡ k → w ≢ v) → link_test (row_pattern sig (Parallel a x u b y w) Same) k v ≡ Any
-  link_test-same_other k v at_x at_u at_y at_w = link_test-with_bond_other _ 0 u 1 w k v at_u at_w ∙ link_test-with_bond_other _ 0 x 1 y k v at_x at_y ∙ link_test-blank sig (a ∷ b ∷ []) k v
+abbrev pub row_types : Family → Row → List ℕ
+row_types (Parallel a x u b y w) Different = (different a x u b y w).types
+row_types family row = (shape_of family).types
 
-  -- Different: they lead to two nodes
-  pub state_test-different : (k v : ℕ) → state_test (row_pattern sig (Parallel a x u b y w) Different) k v ≡ state.Any
-  state_test-different k v = state_test-with_bond _ 0 u 2 w k v ∙ state_test-with_bond _ 0 x 1 y k v ∙ state_test-blank sig (a ∷ b ∷ b ∷ []) k v
-
-  pub link_test-different_first : link_test (row_pattern sig (Parallel a x u b y w) Different) 0 x ≡ To 1 y
-  link_test-different_first = link_test-two_bonds_first _ 0 x u 1 y 2 w (HasNodeSite-blank sig (a ∷ b ∷ b ∷ []) 0 x a refl ok.0) (HasNodeSite-blank sig (a ∷ b ∷ b ∷ []) 0 u a refl ok.1) (λ h. omega arith) (λ h. omega arith) ok.5
-
-  pub link_test-different_second : link_test (row_pattern sig (Parallel a x u b y w) Different) 0 u ≡ To 2 w
-  link_test-different_second = link_test-two_bonds_second _ 0 x u 1 y 2 w (HasNodeSite-blank sig (a ∷ b ∷ b ∷ []) 0 x a refl ok.0) (HasNodeSite-blank sig (a ∷ b ∷ b ∷ []) 0 u a refl ok.1) (λ h. omega arith) (λ h. omega arith) ok.5
-
-  pub link_test-different_other : (k v : ℕ) → (0 ≡ k → x ≢ v) → (0 ≡ k → u ≢ v) → (1 ≡ k → y ≢ v) → (2 ≡ k → w ≢ v) → link_test (row_pattern sig (Parallel a x u b y w) Different) k v ≡ Any
-  link_test-different_other k v at_x at_u at_y at_w = link_test-with_bond_other _ 0 u 2 w k v at_u at_w ∙ link_test-with_bond_other _ 0 x 1 y k v at_x at_y ∙ link_test-blank sig (a ∷ b ∷ b ∷ []) k v
+pub types_of-row_pattern : (sig : List TypeEntry) (family : Family) (row : Row) → IsRow sig family row → types_of (row_pattern sig family row) ≡ row_types family row
+types_of-row_pattern sig (Parallel a x u b y w) Same valid = types_of-root sig (same a x u b y w)
+types_of-row_pattern sig (Parallel a x u b y w) Different valid = types_of-root sig (different a x u b y w)
+types_of-row_pattern sig (Parallel a x u b y w) (Locals locals) valid = absurd valid
+types_of-row_pattern sig family (Locals locals) valid = types_of-pattern sig (shape_of family) locals
+types_of-row_pattern sig family row valid = absurd valid
 
 -- ---- a row implies its root
 
@@ -174,16 +112,12 @@ no_tests h g k v no_state no_link = (rw no_state tt, rw no_link tt)
 same_tests : (h g : List Node) (k v : ℕ) → state_test h k v ≡ state_test g k v → link_test h k v ≡ link_test g k v → ImpliesThere h g k v
 same_tests h g k v same_state same_link = (rw same_state (StateImplies-refl _), rw same_link (LinkImplies-refl h _))
 
-across_implies : (sig : List TypeEntry) (a x p b y q : ℕ) → IsFamily sig (Across a x p b y q) → (l j : Local) (k v : ℕ) → ImpliesThere (row_pattern sig (Across a x p b y q) (Locals (l ∷ j ∷ []))) (root sig (Across a x p b y q)) k v
-across_implies sig a x p b y q ok l j k v =
-    elim (same_site_or_not 0 p k v) [
-      | inl e ↦ no_tests _ _ k v (state_test-across_root sig a x p b y q ok k v)
-          (link_test-across_root_other sig a x p b y q ok k v (λ _ f. ok.4 (e.1 ∙ sym f)) (λ f. absurd (let h = e.0 in omega arith)))
-      | inr out_first ↦ elim (same_site_or_not 1 q k v) [
-        | inl e ↦ no_tests _ _ k v (state_test-across_root sig a x p b y q ok k v)
-            (link_test-across_root_other sig a x p b y q ok k v (λ f. absurd (let h = e.0 in omega arith)) (λ _ f. ok.5 (e.1 ∙ sym f)))
-        | inr out_second ↦ same_tests _ _ k v (state_test-across_other sig a x p b y q ok l j k v out_first out_second) (link_test-across_other sig a x p b y q ok l j k v out_first out_second)
-      ]
+-- the pattern of a shape's row implies its root
+pattern_implies : (sig : List TypeEntry) (shape : Shape) → IsShape sig shape → (locals : List Local) (k v : ℕ) → ImpliesThere (pattern_of sig shape locals) (root_of sig shape) k v
+pattern_implies sig shape ok locals k v =
+    elim (one_or_apart (at k v) shape.columns) [
+      | inl has ↦ no_tests _ _ k v (state_test-root_of sig shape k v) (link_test-root_of sig shape (at k v) (apart_from_left (ends shape.bonds) shape.columns (at k v) ok.apart has))
+      | inr out ↦ let same = SameTests-with_columns (root_of sig shape) shape.columns locals (at k v) out in same_tests _ _ k v same.state same.link
     ]
 
 -- a node with two bonds to nodes of type b implies the root
@@ -204,12 +138,15 @@ typed_of g types n b same is = agent_at-types g n ∙ ap (λ (ts : List ℕ). sl
 
 -- at each site the row's tests imply the root's
 pub row_implies_root : (sig : List TypeEntry) (family : Family) (row : Row) → IsFamily sig family → IsRow sig family row → (k v : ℕ) → ImpliesThere (row_pattern sig family row) (root sig family) k v
-row_implies_root sig (View a sites) (Locals locals) ok valid k v = no_tests _ _ k v (state_test-blank sig (a ∷ []) k v) (link_test-blank sig (a ∷ []) k v)
-row_implies_root sig (Across a x p b y q) (Locals (l ∷ j ∷ [])) ok valid k v = across_implies sig a x p b y q ok l j k v
 row_implies_root sig (Parallel a x u b y w) Same ok valid k v =
-    parallel_implies sig a x u b y w ok _ 1 1 (link_test-same_first sig a x u b y w ok) (link_test-same_second sig a x u b y w ok) (typed_of _ _ 1 b (types_of-same sig a x u b y w) refl) (typed_of _ _ 1 b (types_of-same sig a x u b y w) refl) k v
+    let tests = TestsBond-root_of sig (same a x u b y w) (IsShape-same sig a x u b y w ok) in
+    let typed = typed_of _ _ 1 b (types_of-root sig (same a x u b y w)) refl in
+    parallel_implies sig a x u b y w ok _ 1 1 tests.0.first tests.1.0.first typed typed k v
 row_implies_root sig (Parallel a x u b y w) Different ok valid k v =
-    parallel_implies sig a x u b y w ok _ 1 2 (link_test-different_first sig a x u b y w ok) (link_test-different_second sig a x u b y w ok) (typed_of _ _ 1 b (types_of-different sig a x u b y w) refl) (typed_of _ _ 2 b (types_of-different sig a x u b y w) refl) k v
+    let tests = TestsBond-root_of sig (different a x u b y w) (IsShape-different sig a x u b y w ok) in
+    parallel_implies sig a x u b y w ok _ 1 2 tests.0.first tests.1.0.first (typed_of _ _ 1 b (types_of-root sig (different a x u b y w)) refl) (typed_of _ _ 2 b (types_of-root sig (different a x u b y w)) refl) k v
+row_implies_root sig (Parallel a x u b y w) (Locals locals) ok valid k v = absurd valid
+row_implies_root sig family (Locals locals) ok valid k v = pattern_implies sig (shape_of family) (IsShape-of sig family ok) locals k v
 row_implies_root sig family row ok valid k v = absurd valid
 
 -- ---- each later node has a bond to an earlier one
@@ -217,54 +154,21 @@ row_implies_root sig family row ok valid k v = absurd valid
 pub length_of : (g : List Node) (types : List ℕ) → types_of g ≡ types → length g ≡ length types
 length_of g types same = length-types g ∙ ap length same
 
-module _ (sig : List TypeEntry) (a x p b y q : ℕ) (ok : IsFamily sig (Across a x p b y q)) (l k : Local) where
-  IsJoined-across : IsJoined (row_pattern sig (Across a x p b y q) (Locals (l ∷ k ∷ [])))
-  IsJoined-across (suc n) within = absurd (let long = length_of _ _ (types_of-across sig a x p b y q l k) in omega arith)
-  IsJoined-across zero within = (
-    0,
-    y,
-    x,
-    omega arith,
-    link_test-with_local_other _ 1 q k 1 y (λ _ e. ok.5 e) ∙ link_test-with_local_other _ 0 p l 1 y (λ e. absurd (omega arith))
-        ∙ link_test-with_bond_second _ 0 x 1 y (HasNodeSite-blank sig (a ∷ b ∷ []) 1 y b refl ok.2),
-  )
-
-module _ (sig : List TypeEntry) (a x u b y w : ℕ) (ok : IsFamily sig (Parallel a x u b y w)) where
-  IsJoined-same : IsJoined (row_pattern sig (Parallel a x u b y w) Same)
-  IsJoined-same (suc n) within = absurd (let long = length_of _ _ (types_of-same sig a x u b y w) in omega arith)
-  IsJoined-same zero within = (
-    0,
-    y,
-    x,
-    omega arith,
-    link_test-with_bond_other _ 0 u 1 w 1 y (λ e. absurd (omega arith)) (λ _ e. ok.6 (sym e))
-        ∙ link_test-with_bond_second _ 0 x 1 y (HasNodeSite-blank sig (a ∷ b ∷ []) 1 y b refl ok.2),
-  )
-
-  IsJoined-different : IsJoined (row_pattern sig (Parallel a x u b y w) Different)
-  IsJoined-different (suc (suc n)) within = absurd (let long = length_of _ _ (types_of-different sig a x u b y w) in omega arith)
-  IsJoined-different zero within = (
-    0,
-    y,
-    x,
-    omega arith,
-    link_test-with_bond_other _ 0 u 2 w 1 y (λ e. absurd (omega arith)) (λ e. absurd (omega arith))
-        ∙ link_test-with_bond_second _ 0 x 1 y (HasNodeSite-blank sig (a ∷ b ∷ b ∷ []) 1 y b refl ok.2),
-  )
-  IsJoined-different (suc zero) within = (
-    0,
-    w,
-    u,
-    omega arith,
-    link_test-with_bond_second _ 0 u 2 w (HasNodeSite-with_bond _ 0 x 1 y 2 w (HasNodeSite-blank sig (a ∷ b ∷ b ∷ []) 2 w b refl ok.3)),
-  )
+IsJoined-pattern_of : (sig : List TypeEntry) (shape : Shape) → IsShape sig shape → (locals : List Local) → IsJoined (pattern_of sig shape locals)
+IsJoined-pattern_of sig shape ok locals n within =
+    let inside : suc n < length shape.types = let long = length_of _ _ (types_of-pattern sig shape locals) in omega arith in
+    let b = ok.joined n inside in
+    let tests = All-at (TestsBond (root_of sig shape)) shape.bonds b.1.0 b.0 (TestsBond-root_of sig shape ok) b.1.1 in
+    let end = second_end shape.bonds b.1.0 b.0 b.1.1 in
+    let kept = SameTests-with_columns (root_of sig shape) shape.columns locals b.0.second (apart_from_right (ends shape.bonds) shape.columns end.0 b.0.second ok.apart end.1) in
+    (b.0.first.node, b.0.second.site, b.0.first.site, (let before = b.3 in omega arith), rw (← b.2) (kept.link ∙ tests.second))
 
 pub IsJoined-row_pattern : (sig : List TypeEntry) (family : Family) (row : Row) → IsFamily sig family → IsRow sig family row → IsJoined (row_pattern sig family row)
-IsJoined-row_pattern sig (View a sites) (Locals locals) ok valid n within = absurd (let long = length_of _ _ (types_of-view sig a sites locals) in omega arith)
-IsJoined-row_pattern sig (Across a x p b y q) (Locals (l ∷ k ∷ [])) ok valid n within = IsJoined-across sig a x p b y q ok l k n within
-IsJoined-row_pattern sig (Parallel a x u b y w) Same ok valid n within = IsJoined-same sig a x u b y w ok n within
-IsJoined-row_pattern sig (Parallel a x u b y w) Different ok valid n within = IsJoined-different sig a x u b y w ok n within
-IsJoined-row_pattern sig family row ok valid n within = absurd valid
+IsJoined-row_pattern sig (Parallel a x u b y w) Same ok valid = IsJoined-pattern_of sig _ (IsShape-same sig a x u b y w ok) []
+IsJoined-row_pattern sig (Parallel a x u b y w) Different ok valid = IsJoined-pattern_of sig _ (IsShape-different sig a x u b y w ok) []
+IsJoined-row_pattern sig (Parallel a x u b y w) (Locals locals) ok valid = absurd valid
+IsJoined-row_pattern sig family (Locals locals) ok valid = IsJoined-pattern_of sig (shape_of family) (IsShape-of sig family ok) locals
+IsJoined-row_pattern sig family row ok valid = absurd valid
 
 -- ---- the first node
 
@@ -276,14 +180,14 @@ nowhere : (c a : ℕ) → type_in [] c ≡ Some a → ⊥
 unfolding type_in agent_in
 nowhere c a e = cc
 
-first_of_types : (g : List Node) (a : ℕ) (types : List ℕ) → types_of g ≡ a ∷ types → agent_at g 0 ≡ Some a
-first_of_types g a types same = agent_at-types g 0 ∙ ap (λ (ts : List ℕ). slice_get ts 0) same
+first_of_types : (g : List Node) (types : List ℕ) → types_of g ≡ types → 0 < length types → (a : ℕ) × (agent_at g 0 ≡ Some a)
+first_of_types g types same some = let a = some_at types 0 some in (a.0, typed_of g types 0 a.0 same a.1)
 
 pub first_node : (sig : List TypeEntry) (family : Family) (row : Row) → IsRow sig family row → (a : ℕ) × (agent_at (row_pattern sig family row) 0 ≡ Some a)
-first_node sig (View a sites) (Locals locals) valid = (a, first_of_types _ a [] (types_of-view sig a sites locals))
-first_node sig (Across a x p b y q) (Locals (l ∷ k ∷ [])) valid = (a, first_of_types _ a (b ∷ []) (types_of-across sig a x p b y q l k))
-first_node sig (Parallel a x u b y w) Same valid = (a, first_of_types _ a (b ∷ []) (types_of-same sig a x u b y w))
-first_node sig (Parallel a x u b y w) Different valid = (a, first_of_types _ a (b ∷ b ∷ []) (types_of-different sig a x u b y w))
+first_node sig (Parallel a x u b y w) Same valid = first_of_types _ _ (types_of-root sig (same a x u b y w)) (omega arith)
+first_node sig (Parallel a x u b y w) Different valid = first_of_types _ _ (types_of-root sig (different a x u b y w)) (omega arith)
+first_node sig (Parallel a x u b y w) (Locals locals) valid = absurd valid
+first_node sig family (Locals locals) valid = first_of_types _ _ (types_of-pattern sig (shape_of family) locals) (some_types family)
 first_node sig family row valid = absurd valid
 
 -- no row occurs in the empty mixture

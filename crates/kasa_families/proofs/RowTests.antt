@@ -1,15 +1,15 @@
 -- What the pattern of a row tests at each site.
-use Rattle.std.proofs.Common.{◌≡◌, ◌≢◌, ℕ, zero, suc, ◌<◌, List, [], ◌∷◌, refl, ap, ◌∙◌, arith}
+use Rattle.std.proofs.Common.{◌≡◌, ◌≢◌, ℕ, zero, suc, ◌<◌, List, [], ◌∷◌, ◌∙◌, arith}
 use Rattle.std.specs.Prelude.{Some, slice_get}
 use Rattle.kasa_graph.specs.declared.pattern.Node.{Node}
 use Rattle.kasa_graph.specs.Lists.{AllDifferent}
 use Rattle.kasa_graph.specs.Pattern.{state_test, link_test, types_of, HasNodeSite}
-use Rattle.kasa_graph.proofs.ListLemmas.{AllDifferent-[], AllDifferent-cons, AllDifferent-tail, AllDifferent-head}
+use Rattle.kasa_graph.proofs.ListLemmas.{AllDifferent-[], AllDifferent-cons}
 use Rattle.kasa_graph.proofs.PatternLemmas.{link_test-with_link_same, link_test-with_link_other, link_test-with_state, HasNodeSite-with_link}
 use Rattle.kasa_graph.proofs.TestLemmas.{types_of-with_state, types_of-with_link, state_test-with_link, state_test-with_state_same, state_test-with_state_other, HasNodeSite-with_state}
 use Rattle.kasa_families.specs.declared.row.Local.{Local}
 use Rattle.kasa_families.specs.Family.{Ascends}
-use Rattle.kasa_families.specs.Pattern.{local_state_test, local_link_test, with_local, with_locals}
+use Rattle.kasa_families.specs.Local.{local_state_test, local_link_test, with_local}
 
 -- ---- ascending numbers are different
 
@@ -46,42 +46,3 @@ module _ (g : List Node) (n s : ℕ) (l : Local) where
 
   pub link_test-with_local_other : (k u : ℕ) → (n ≡ k → s ≢ u) → link_test (with_local g n s l) k u ≡ link_test g k u
   link_test-with_local_other k u ne = link_test-with_link_other _ n s k u (local_link_test l.link) ne ∙ link_test-with_state g n s (local_state_test l.state) k u
-
--- ---- a local state at each of some sites
-
-pub types_of-with_locals : (g : List Node) (n : ℕ) (sites : List ℕ) (locals : List Local) → types_of (with_locals g n sites locals) ≡ types_of g
-types_of-with_locals g n [] locals = refl
-types_of-with_locals g n (s ∷ sites) [] = refl
-types_of-with_locals g n (s ∷ sites) (l ∷ locals) = types_of-with_locals (with_local g n s l) n sites locals ∙ types_of-with_local g n s l
-
--- elsewhere nothing changes
-pub state_test-with_locals_other : (g : List Node) (n : ℕ) (sites : List ℕ) (locals : List Local) (k u : ℕ) → ((i : ℕ) → n ≡ k → slice_get sites i ≢ Some u) → state_test (with_locals g n sites locals) k u ≡ state_test g k u
-state_test-with_locals_other g n [] locals k u out = refl
-state_test-with_locals_other g n (s ∷ sites) [] k u out = refl
-state_test-with_locals_other g n (s ∷ sites) (l ∷ locals) k u out =
-    state_test-with_locals_other (with_local g n s l) n sites locals k u (λ i. out (suc i)) ∙ state_test-with_local_other g n s l k u (λ e f. out zero e (ap Some f))
-
-pub link_test-with_locals_other : (g : List Node) (n : ℕ) (sites : List ℕ) (locals : List Local) (k u : ℕ) → ((i : ℕ) → n ≡ k → slice_get sites i ≢ Some u) → link_test (with_locals g n sites locals) k u ≡ link_test g k u
-link_test-with_locals_other g n [] locals k u out = refl
-link_test-with_locals_other g n (s ∷ sites) [] k u out = refl
-link_test-with_locals_other g n (s ∷ sites) (l ∷ locals) k u out =
-    link_test-with_locals_other (with_local g n s l) n sites locals k u (λ i. out (suc i)) ∙ link_test-with_local_other g n s l k u (λ e f. out zero e (ap Some f))
-
--- at the i-th site stands the i-th local state
-pub state_test-with_locals_at : (g : List Node) (n : ℕ) (sites : List ℕ) (locals : List Local) (i s : ℕ) (l : Local) → AllDifferent sites → slice_get sites i ≡ Some s → slice_get locals i ≡ Some l → HasNodeSite g n s → state_test (with_locals g n sites locals) n s ≡ local_state_test l.state
-state_test-with_locals_at g n [] locals i s l different e f has = absurd cc
-state_test-with_locals_at g n (t ∷ sites) [] i s l different e f has = absurd cc
-state_test-with_locals_at g n (t ∷ sites) (k ∷ locals) zero s l different e f has =
-    let site : t ≡ s = cc in let local : k ≡ l = cc in
-    rw (site, local) (state_test-with_locals_other (with_local g n s l) n sites locals n s (λ i _. AllDifferent-head s sites i (rw site at different)) ∙ state_test-with_local_same g n s l has)
-state_test-with_locals_at g n (t ∷ sites) (k ∷ locals) (suc i) s l different e f has =
-    state_test-with_locals_at (with_local g n t k) n sites locals i s l (AllDifferent-tail t sites different) e f (HasNodeSite-with_local g n t k n s has)
-
-pub link_test-with_locals_at : (g : List Node) (n : ℕ) (sites : List ℕ) (locals : List Local) (i s : ℕ) (l : Local) → AllDifferent sites → slice_get sites i ≡ Some s → slice_get locals i ≡ Some l → HasNodeSite g n s → link_test (with_locals g n sites locals) n s ≡ local_link_test l.link
-link_test-with_locals_at g n [] locals i s l different e f has = absurd cc
-link_test-with_locals_at g n (t ∷ sites) [] i s l different e f has = absurd cc
-link_test-with_locals_at g n (t ∷ sites) (k ∷ locals) zero s l different e f has =
-    let site : t ≡ s = cc in let local : k ≡ l = cc in
-    rw (site, local) (link_test-with_locals_other (with_local g n s l) n sites locals n s (λ i _. AllDifferent-head s sites i (rw site at different)) ∙ link_test-with_local_same g n s l has)
-link_test-with_locals_at g n (t ∷ sites) (k ∷ locals) (suc i) s l different e f has =
-    link_test-with_locals_at (with_local g n t k) n sites locals i s l (AllDifferent-tail t sites different) e f (HasNodeSite-with_local g n t k n s has)

@@ -6,7 +6,7 @@ use Rattle.std.specs.Option.{option_eq}
 use Rattle.std.proofs.Common.{ap}
 use Rattle.std.proofs.lemmas.Bool.Decides.{Decides-eqb, Decides-and}
 use Rattle.kasa_families.specs.declared.family.Family.{Family}
-use Rattle.kasa_families.specs.declared.family.Family.TheVariants.{View, Across, Parallel}
+use Rattle.kasa_families.specs.declared.family.Family.TheVariants.{View, Across, Parallel, Chain}
 use Rattle.kasa_families.specs.declared.row.LocalLink.{LocalLink}
 use Rattle.kasa_families.specs.declared.row.LocalLink.TheVariants.{Free, Partner}
 use Rattle.kasa_families.specs.declared.row.Local.{Local}
@@ -61,16 +61,20 @@ six : (a x p b y q a' x' p' b' y' q' : ℕ) → Decides ((a == a') && ((x == x')
 six a x p b y q a' x' p' b' y' q' =
     Decides-and _ _ (Decides-eqb a a') (Decides-and _ _ (Decides-eqb x x') (Decides-and _ _ (Decides-eqb p p') (Decides-and _ _ (Decides-eqb b b') (Decides-and _ _ (Decides-eqb y y') (Decides-eqb q q')))))
 
+nine : (a x p b y z c w q a' x' p' b' y' z' c' w' q' : ℕ) → Decides ((a == a') && ((x == x') && ((p == p') && ((b == b') && ((y == y') && ((z == z') && ((c == c') && ((w == w') && (q == q')))))))))
+    ((a ≡ a') × ((x ≡ x') × ((p ≡ p') × ((b ≡ b') × ((y ≡ y') × ((z ≡ z') × ((c ≡ c') × ((w ≡ w') × (q ≡ q')))))))))
+nine a x p b y z c w q a' x' p' b' y' z' c' w' q' =
+    Decides-and _ _ (Decides-eqb a a') (Decides-and _ _ (Decides-eqb x x') (Decides-and _ _ (Decides-eqb p p') (Decides-and _ _ (Decides-eqb b b') (Decides-and _ _ (Decides-eqb y y') (Decides-and _ _ (Decides-eqb z z') (Decides-and _ _ (Decides-eqb c c') (Decides-and _ _ (Decides-eqb w w') (Decides-eqb q q'))))))))
+
 pub same_family : (family other : Family) → Decides ((families.ghosts).eq family other) (family ≡ other)
 same_family (View a sites) (View b others) =
     told ((a == b) && pointwise nat_eq sites others) (Decides-and _ _ (Decides-eqb a b) (same_sites sites others)) (λ e. λ i. View (e.0 i) (e.1 i)) (λ e. (cc, cc))
-same_family (View a sites) (Across a' x' p' b' y' q') = (λ e. absurd cc, λ e. absurd cc)
-same_family (View a sites) (Parallel a' x' p' b' y' q') = (λ e. absurd cc, λ e. absurd cc)
-same_family (Across a x p b y q) (View a' others) = (λ e. absurd cc, λ e. absurd cc)
 same_family (Across a x p b y q) (Across a' x' p' b' y' q') =
     told ((families.ghosts).eq (Across a x p b y q) (Across a' x' p' b' y' q')) (six a x p b y q a' x' p' b' y' q') (λ e. λ i. Across (e.0 i) (e.1.0 i) (e.1.1.0 i) (e.1.1.1.0 i) (e.1.1.1.1.0 i) (e.1.1.1.1.1 i)) (λ e. (cc, (cc, (cc, (cc, (cc, cc))))))
-same_family (Across a x p b y q) (Parallel a' x' p' b' y' q') = (λ e. absurd cc, λ e. absurd cc)
-same_family (Parallel a x p b y q) (View a' others) = (λ e. absurd cc, λ e. absurd cc)
-same_family (Parallel a x p b y q) (Across a' x' p' b' y' q') = (λ e. absurd cc, λ e. absurd cc)
 same_family (Parallel a x p b y q) (Parallel a' x' p' b' y' q') =
     told ((families.ghosts).eq (Parallel a x p b y q) (Parallel a' x' p' b' y' q')) (six a x p b y q a' x' p' b' y' q') (λ e. λ i. Parallel (e.0 i) (e.1.0 i) (e.1.1.0 i) (e.1.1.1.0 i) (e.1.1.1.1.0 i) (e.1.1.1.1.1 i)) (λ e. (cc, (cc, (cc, (cc, (cc, cc))))))
+same_family (Chain a x p b y z c w q) (Chain a' x' p' b' y' z' c' w' q') =
+    told ((families.ghosts).eq (Chain a x p b y z c w q) (Chain a' x' p' b' y' z' c' w' q')) (nine a x p b y z c w q a' x' p' b' y' z' c' w' q')
+    (λ e. λ i. Chain (e.0 i) (e.1.0 i) (e.1.1.0 i) (e.1.1.1.0 i) (e.1.1.1.1.0 i) (e.1.1.1.1.1.0 i) (e.1.1.1.1.1.1.0 i) (e.1.1.1.1.1.1.1.0 i) (e.1.1.1.1.1.1.1.1 i)) (λ e. (cc, (cc, (cc, (cc, (cc, (cc, (cc, (cc, cc)))))))))
+-- two kinds
+same_family family other = (λ e. absurd cc, λ e. absurd cc)

@@ -3,7 +3,9 @@ use Rattle.std.specs.Prelude.{◌≡◌, ℕ, ◌<◌, ◌≤◌, List, Option, 
 use Rattle.kasa_graph.specs.declared.pattern.Node.{Node}
 use Rattle.kasa_families.specs.declared.family.Family.{Family}
 use Rattle.kasa_families.specs.declared.row.Row.{Row}
+use Rattle.kasa_families.specs.declared.compatible.Spot.{Spot}
 use Rattle.kasa_families.specs.Family.{family_types}
+use Rattle.kasa_families.specs.Spot.{place_of}
 use Rattle.kasa_families.specs.Compatible.{IsCompatible}
 use Rattle.kasa_families.specs.Table.{Table, families_of, rows_of}
 
@@ -12,10 +14,10 @@ abbrev pub IsLeastFrom : (ℕ → Type 0) → ℕ → Option ℕ → Type 0
 IsLeastFrom P from (Some k) = (from ≤ k) × P k × ((j : ℕ) → from ≤ j → j < k → ¬ P j)
 IsLeastFrom P from None = (j : ℕ) → from ≤ j → ¬ P j
 
--- the row of a number of the family of a number is compatible with g at the place
-abbrev pub IsCompatibleRow : List Table → ℕ → List Node → List ℕ → ℕ → Type 0
-IsCompatibleRow tables f g place k =
-    (family : Family) × (row : Row) × (slice_get (families_of tables) f ≡ Some family) × (slice_get (rows_of tables f) k ≡ Some row) × IsCompatible g family place row
+-- the row of a number of the family of a number is compatible with g at the spot
+abbrev pub IsCompatibleRow : List Table → ℕ → List Node → Spot → ℕ → Type 0
+IsCompatibleRow tables f g spot k =
+    (family : Family) × (row : Row) × (slice_get (families_of tables) f ≡ Some family) × (slice_get (rows_of tables f) k ≡ Some row) × IsCompatible g family (place_of g family spot) row
 
 -- the first node of the root of the family of a number has the type
 abbrev pub IsRooted : List Table → ℕ → ℕ → Type 0

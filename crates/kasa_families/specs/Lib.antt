@@ -1,4 +1,7 @@
+pub mod Local
+pub mod Shape
 pub mod Family
+pub mod Kinds
 pub mod Row
 pub mod Seen
 pub mod Pattern

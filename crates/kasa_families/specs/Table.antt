@@ -6,9 +6,9 @@ use Rattle.kasa_graph.specs.Signature.{TypeEntry}
 use Rattle.kasa_graph.specs.Lists.{Has, AllDifferent}
 use Rattle.kasa_families.specs.declared.family.Family.{Family}
 use Rattle.kasa_families.specs.declared.row.Row.{Row}
-use Rattle.kasa_families.specs.declared.family.Family.TheVariants.{View, Across, Parallel}
-use Rattle.kasa_families.specs.declared.row.Row.TheVariants.{Locals, Same, Different}
-use Rattle.kasa_families.specs.Family.{IsFamily}
+use Rattle.kasa_families.specs.declared.family.Family.TheVariants.{Parallel}
+use Rattle.kasa_families.specs.declared.row.Row.TheVariants.{Locals}
+use Rattle.kasa_families.specs.Family.{IsFamily, shape_of}
 use Rattle.kasa_families.specs.Row.{IsRow}
 
 -- a family with the rows that are held of it
@@ -33,11 +33,10 @@ pub record AreTables (sig : List TypeEntry) (tables : List Table) : Type 0 where
 
 -- a row has the shape of a family's rows
 abbrev pub HasShape : Family → Row → Type 0
-HasShape (View a sites) (Locals locals) = length locals ≡ length sites
-HasShape (Across a x p b y q) (Locals locals) = length locals ≡ 2
-HasShape (Parallel a x u b y w) Same = ⊤
-HasShape (Parallel a x u b y w) Different = ⊤
-HasShape _ _ = ⊥
+HasShape (Parallel a x u b y w) (Locals locals) = ⊥
+HasShape (Parallel a x u b y w) row = ⊤
+HasShape family (Locals locals) = length locals ≡ length (shape_of family).columns
+HasShape family row = ⊥
 
 -- at most 8,000 different families, each with different rows of its shape, at most 200,000 rows in all
 pub record AreShapedTables (tables : List Table) : Type 0 where

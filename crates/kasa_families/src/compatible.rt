@@ -1,13 +1,16 @@
 // Whether a row can stand where its family's root stands.
-ghost use Rattle.std.specs.Prelude.{◌≡◌, ◌≢◌, ℕ, List, [], ◌∷◌, Some, slice_get, IsTrue, ◌↔◌};
+ghost use Rattle.std.specs.Prelude.{◌≡◌, ◌≢◌, ℕ, Some, slice_get, IsTrue, ◌↔◌};
 ghost use Rattle.kasa_graph.specs.declared.pattern.LinkTest.TheVariants.{To};
+ghost use Rattle.kasa_graph.specs.Lists.{Has};
 ghost use Rattle.kasa_graph.specs.Pattern.{link_test, HasNodeSite, StatesAgree, LinksAgree};
-ghost use Rattle.kasa_families.specs.declared.row.Local.{Local};
-ghost use Rattle.kasa_families.specs.Compatible.{LocalAgrees, LocalsAgree, CanBeSame, CanBeDifferent, IsCompatible};
-ghost use Rattle.kasa_families.specs.Spot.{place_of, StandsAt, HasNamedSites};
+ghost use Rattle.kasa_families.specs.Local.{LocalAgrees};
+ghost use Rattle.kasa_families.specs.Shape.{Nth, ColumnsAgree};
+ghost use Rattle.kasa_families.specs.Family.{shape_of};
+ghost use Rattle.kasa_families.specs.Compatible.{CanBeSame, CanBeDifferent, IsCompatible};
+ghost use Rattle.kasa_families.specs.Spot.{led_to, led_from, chain_site, place_of, StandsAt, HasNamedSites};
 
 use crate::patterns::{link_test_of, state_test_of};
-use crate::{Family, Local, Row};
+use crate::{Family, Local, NodeSite, Row};
 use kasa_graph::{LinkTest, Pattern, StateTest, implies};
 use kasa_num::{NodeNo, SiteNo};
 
@@ -22,49 +25,98 @@ pub struct Spot {
 /// the same site, and for a parallel family the partners that g names can be the same node, or different ones. It takes
 /// no memory.
 pub fn is_compatible(g: &Pattern, family: &Family, spot: &Spot, row: &Row) -> bool
-    requires stands { StandsAt g.now family.now (place_of spot.now) }
+    requires stands { StandsAt g.now family.now (place_of g.now family.now spot.now) }
     requires named { HasNamedSites g.now family.now }
-    ensures { IsTrue result ↔ IsCompatible g.now family.now (place_of spot.now) row.now }
+    ensures { IsTrue result ↔ IsCompatible g.now family.now (place_of g.now family.now spot.now) row.now }
 {
-    match (family, spot.second, row) {
-        (Family::View { agent: _, sites }, None, Row::Locals(locals)) => {
-            locals_agree(g, spot.first, sites.as_slice(), locals.as_slice())
-        }
-        (Family::Across { p, q, .. }, Some(second), Row::Locals(locals)) => {
-            ends_agree(g, spot.first, *p, second, *q, locals.as_slice())
-        }
-        (Family::Parallel { x, u, y, w, .. }, None, Row::Same) => {
-            can_be_same(g, spot.first, *x, *u, *y, *w)
-        }
-        (Family::Parallel { x, u, .. }, None, Row::Different) => {
-            can_be_different(g, spot.first, *x, *u)
-        }
-        _ => false,
+    match family {
+        Family::Parallel { x, u, y, w, .. } => match row {
+            Row::Locals(_) => false,
+            Row::Same => spot.second.is_none() && can_be_same(g, spot.first, *x, *u, *y, *w),
+            Row::Different => spot.second.is_none() && can_be_different(g, spot.first, *x, *u),
+        },
+        _ => match row {
+            Row::Locals(locals) => columns_agree(g, family, spot, locals.as_slice()),
+            _ => false,
+        },
     }
 }
 
-// No local state contradicts g at its site.
-fn locals_agree(g: &Pattern, node: NodeNo, sites: &[SiteNo], locals: &[Local]) -> bool
-    requires { (k s : ℕ) → slice_get sites.now k ≡ Some s → HasNodeSite g.now node s }
-    ensures { IsTrue result ↔ LocalsAgree g.now node sites.now locals.now }
+// There is a local state for each column, and none contradicts g there.
+fn columns_agree(g: &Pattern, family: &Family, spot: &Spot, locals: &[Local]) -> bool
+    requires stands { StandsAt g.now family.now (place_of g.now family.now spot.now) }
+    requires named { HasNamedSites g.now family.now }
+    ensures { IsTrue result ↔ ColumnsAgree g.now (place_of g.now family.now spot.now) (shape_of family.now).columns locals.now }
 {
-    for (site, local) in sites.iter().zip(locals) {
-        if !local_agrees(g, node, *site, *local) {
+    if locals.len() != family.columns() {
+        return false;
+    }
+    for k in 0..locals.len() {
+        if !agrees_at(g, family, spot, k, locals[k]) {
             return false;
         }
     }
-    sites.len() == locals.len()
+    true
 }
 
-// There are two local states, and neither contradicts g at its site.
-fn ends_agree(g: &Pattern, n: NodeNo, p: SiteNo, m: NodeNo, q: SiteNo, locals: &[Local]) -> bool
-    requires first { HasNodeSite g.now n p }
-    requires second { HasNodeSite g.now m q }
-    ensures { IsTrue result ↔ ((l k : Local) × (locals.now ≡ l ∷ k ∷ []) × LocalAgrees g.now n p l × LocalAgrees g.now m q k) }
+// There is such a column, and the local state doesn't contradict g there.
+fn agrees_at(g: &Pattern, family: &Family, spot: &Spot, k: usize, local: Local) -> bool
+    requires stands { StandsAt g.now family.now (place_of g.now family.now spot.now) }
+    requires named { HasNamedSites g.now family.now }
+    ensures { IsTrue result ↔ Nth (shape_of family.now).columns k (λ s. Nth (place_of g.now family.now spot.now) s.node (λ n. LocalAgrees g.now n s.site local)) }
 {
-    match locals {
-        [first, second] => local_agrees(g, n, p, *first) && local_agrees(g, m, q, *second),
-        _ => false,
+    match family.column(k) {
+        None => false,
+        Some(at) => column_agrees(g, family, spot, at, local),
+    }
+}
+
+fn column_agrees(g: &Pattern, family: &Family, spot: &Spot, at: NodeSite, local: Local) -> bool
+    requires stands { StandsAt g.now family.now (place_of g.now family.now spot.now) }
+    requires named { HasNamedSites g.now family.now }
+    requires column { Has (shape_of family.now).columns at }
+    ensures { IsTrue result ↔ Nth (place_of g.now family.now spot.now) at.node (λ n. LocalAgrees g.now n at.site local) }
+{
+    match node_at(g, family, spot, at.node) {
+        None => false,
+        Some(node) => local_agrees(g, node, at.site, local),
+    }
+}
+
+// The node of g where a node of the root stands.
+fn node_at(g: &Pattern, family: &Family, spot: &Spot, n: NodeNo) -> Option<NodeNo>
+    requires stands { StandsAt g.now family.now (place_of g.now family.now spot.now) }
+    requires named { HasNamedSites g.now family.now }
+    ensures { result ≡ slice_get (place_of g.now family.now spot.now) n }
+{
+    match n.0 {
+        0 => Some(spot.first),
+        1 => spot.second,
+        2 => third(g, family, spot.second),
+        _ => None,
+    }
+}
+
+// The third node of a chain.
+fn third(g: &Pattern, family: &Family, second: Option<NodeNo>) -> Option<NodeNo>
+    requires { (m z : ℕ) → second ≡ Some m → chain_site family.now ≡ Some z → HasNodeSite g.now m z }
+    ensures { result ≡ slice_get (led_from g.now second (chain_site family.now)) 0 }
+{
+    match family {
+        Family::Chain { z, .. } => match second {
+            None => None,
+            Some(m) => led_to(&g.link(m, *z)),
+        },
+        _ => None,
+    }
+}
+
+fn led_to(link: &LinkTest) -> Option<NodeNo>
+    ensures { result ≡ slice_get (led_to link.now) 0 }
+{
+    match *link {
+        LinkTest::To(m, _) => Some(m),
+        _ => None,
     }
 }
 

@@ -19,7 +19,8 @@ impl Model for Sites {
 }
 
 /// A root pattern and the shape of the rows that refine it. In the notation of Kappa a view's root is one agent, an
-/// across family's `A(x[1]),B(y[1])`, and a parallel family's `A(x[y.B],u[w.B])`.
+/// across family's `A(x[1]),B(y[1])`, a parallel family's `A(x[y.B],u[w.B])`, and a chain's
+/// `A(x[1]),B(y[1],z[2]),C(w[2])`.
 #[derive(Debug, Drop, PartialEq, Eq)]
 pub enum Family {
     /// One agent, whose rows give the local states of some of its sites.
@@ -44,6 +45,18 @@ pub enum Family {
         b: AgentType,
         y: SiteNo,
         w: SiteNo,
+    },
+    /// Two bonds of one agent, whose rows give the local state of a further site at each of the outer agents.
+    Chain {
+        a: AgentType,
+        x: SiteNo,
+        p: SiteNo,
+        b: AgentType,
+        y: SiteNo,
+        z: SiteNo,
+        c: AgentType,
+        w: SiteNo,
+        q: SiteNo,
     },
 }
 
@@ -119,6 +132,27 @@ impl Family {
                 b: *b,
                 y: *y,
                 w: *w,
+            }),
+            Family::Chain {
+                a,
+                x,
+                p,
+                b,
+                y,
+                z,
+                c,
+                w,
+                q,
+            } => Ok(Family::Chain {
+                a: *a,
+                x: *x,
+                p: *p,
+                b: *b,
+                y: *y,
+                z: *z,
+                c: *c,
+                w: *w,
+                q: *q,
             }),
         }
     }

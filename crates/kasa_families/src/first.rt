@@ -18,6 +18,7 @@ pub fn first_type(family: &Family) -> AgentType
         Family::View { agent, .. } => *agent,
         Family::Across { a, .. } => *a,
         Family::Parallel { a, .. } => *a,
+        Family::Chain { a, .. } => *a,
     }
 }
 
@@ -30,9 +31,9 @@ pub fn first_among(
     spot: &Spot,
     from: usize,
 ) -> Option<usize>
-    requires stands { StandsAt g.now family.now (place_of spot.now) }
+    requires stands { StandsAt g.now family.now (place_of g.now family.now spot.now) }
     requires named { HasNamedSites g.now family.now }
-    ensures { IsLeastFrom (λ k. (row : Row) × (slice_get rows.now k ≡ Some row) × IsCompatible g.now family.now (place_of spot.now) row) from result }
+    ensures { IsLeastFrom (λ k. (row : Row) × (slice_get rows.now k ≡ Some row) × IsCompatible g.now family.now (place_of g.now family.now spot.now) row) from result }
 {
     for k in from..rows.len() {
         if is_compatible(g, family, spot, &rows[k]) {

@@ -10,6 +10,7 @@ mod listed;
 mod patterns;
 mod row;
 mod rows;
+mod shape;
 #[cfg(test)]
 mod tests;
 mod valid;
@@ -20,4 +21,5 @@ pub use first::{first_among, first_type};
 pub use patterns::{pattern, root};
 pub use row::{Local, LocalLink, Locals, Row};
 pub use rows::{Missing, Origin, Rows, Verdict};
+pub use shape::{Bond, NodeSite};
 pub use valid::{has_shape, is_family, is_row};

@@ -89,8 +89,8 @@ impl Rows for OneTable {
 
 /// Whether some row of the family can stand where its root stands in g.
 pub fn is_possible<R: Rows>(rows: &R, f: FamilyNo, g: &Pattern, spot: Spot) -> bool
-    requires { (family : Family) × (slice_get (families_of (R.tables rows.now)) f ≡ Some family) × StandsAt g.now family (place_of spot) × HasNamedSites g.now family }
-    ensures { IsTrue result ↔ ((k : ℕ) × IsCompatibleRow (R.tables rows.now) f g.now (place_of spot) k) }
+    requires { (family : Family) × (slice_get (families_of (R.tables rows.now)) f ≡ Some family) × StandsAt g.now family (place_of g.now family spot) × HasNamedSites g.now family }
+    ensures { IsTrue result ↔ ((k : ℕ) × IsCompatibleRow (R.tables rows.now) f g.now spot k) }
 {
     rows.first_compatible(f, g, spot, 0).is_some()
 }

@@ -1,27 +1,29 @@
 // The patterns of roots and of rows.
 ghost use Rattle.std.specs.Prelude.{◌≡◌, ℕ, ◌<◌, ◌≤◌, List, [], ◌∷◌, Option, Some, length, map, IfOk, slice_get};
+ghost use Rattle.std.specs.List.{AllByRecursion};
 ghost use Rattle.kasa_graph.specs.declared.mixture.Agent.{Agent};
 ghost use Rattle.kasa_graph.specs.Signature.{TypeEntry};
-ghost use Rattle.kasa_graph.specs.Pattern.{link_test, blank_node, with_bond, HasNodeSite, IsNoBond, IsPatternOver};
+ghost use Rattle.kasa_graph.specs.Pattern.{link_test, blank_node, with_bond, with_link, HasNodeSite, IsNoBond, IsPatternOver};
+ghost use Rattle.kasa_graph.specs.declared.pattern.LinkTest.TheVariants.{Partner};
 ghost use Rattle.kasa_graph.specs.Mixture.{IsMixtureOver};
 ghost use Rattle.kasa_graph.specs.Embedding.{IsEmbedding};
 ghost use Rattle.kasa_families.specs.declared.row.Local.{Local};
-ghost use Rattle.kasa_families.specs.Family.{IsFamily, root};
-ghost use Rattle.kasa_families.specs.Join.{CanJoin};
+ghost use Rattle.kasa_families.specs.declared.family.Family.TheVariants.{Parallel};
+ghost use Rattle.kasa_families.specs.Local.{local_state_test, local_link_test, with_local};
+ghost use Rattle.kasa_families.specs.Shape.{IsShape, AreApart, ends, with_bonds, root_of, with_columns};
+ghost use Rattle.kasa_families.specs.Family.{IsFamily, shape_of, different, root};
+ghost use Rattle.kasa_families.specs.Join.{IsOpen, CanJoin};
 ghost use Rattle.kasa_families.specs.Row.{IsRow};
-ghost use Rattle.kasa_families.specs.Pattern.{local_state_test, local_link_test, with_local, with_locals, row_pattern};
+ghost use Rattle.kasa_families.specs.Pattern.{row_pattern};
 ghost use Rattle.kasa_families.specs.Orthogonal.{ExtendsOnce};
 
-use crate::{Family, Local, LocalLink, Row};
+use crate::shape::bond_between;
+use crate::{Bond, Family, Local, LocalLink, NodeSite, Row};
 use kasa_graph::{LinkTest, Pattern, Signature, StateTest};
 use kasa_num::{AgentType, NoMemory, NodeNo, SiteNo, StateNo};
 use std::alloc::Global;
 
 const FIRST: NodeNo = NodeNo(0);
-
-const SECOND: NodeNo = NodeNo(1);
-
-const THIRD: NodeNo = NodeNo(2);
 
 /// The pattern that each row of the family refines: an agent, a bond, or an agent with two partners of one type.
 ///
@@ -33,27 +35,7 @@ pub fn root(alloc: Global, sig: &Signature, family: &Family) -> Result<Pattern, 
     ensures over { IfOk result (λ g. IsPatternOver sig.now g) }
     ensures orthogonal { IfOk result (λ g. (m : List (Option Agent)) (cells : List ℕ) → IsMixtureOver sig.now m → IsEmbedding g m cells → ExtendsOnce sig.now family.now m cells) }
 {
-    match family {
-        Family::View { agent, sites: _ } => blank(alloc, sig, &[*agent]),
-        Family::Across {
-            a,
-            x,
-            p: _,
-            b,
-            y,
-            q: _,
-        } => {
-            let mut g = blank(alloc, sig, &[*a, *b])?;
-            bond(&mut g, *x, SECOND, *y);
-            Ok(g)
-        }
-        Family::Parallel { a, x, u, b, y, w } => {
-            let mut g = blank(alloc, sig, &[*a])?;
-            g.set_link(FIRST, *x, LinkTest::Partner(*b, *y));
-            g.set_link(FIRST, *u, LinkTest::Partner(*b, *w));
-            Ok(g)
-        }
-    }
+    rooted(alloc, sig, family)
 }
 
 /// The pattern of a row of the family: its root, refined by what the row says. The root's nodes come first.
@@ -68,31 +50,119 @@ pub fn pattern(
     ensures pattern { IfOk result (λ g. g ≡ row_pattern sig.now family.now row.now) }
     ensures over { IfOk result (λ g. IsPatternOver sig.now g) }
 {
-    match (family, row) {
-        (Family::View { agent, sites }, Row::Locals(locals)) => {
-            let mut g = blank(alloc, sig, &[*agent])?;
-            put_locals(&mut g, sites.as_slice(), locals.as_slice());
-            Ok(g)
-        }
-        (Family::Across { p, q, .. }, Row::Locals(locals)) => {
-            let mut g = root(alloc, sig, family)?;
-            put_ends(&mut g, *p, *q, locals.as_slice());
-            Ok(g)
-        }
-        (Family::Parallel { a, x, u, b, y, w }, Row::Same) => {
-            let mut g = blank(alloc, sig, &[*a, *b])?;
-            bond(&mut g, *x, SECOND, *y);
-            bond(&mut g, *u, SECOND, *w);
-            Ok(g)
-        }
-        (Family::Parallel { a, x, u, b, y, w }, Row::Different) => {
-            let mut g = blank(alloc, sig, &[*a, *b, *b])?;
-            bond(&mut g, *x, SECOND, *y);
-            bond(&mut g, *u, THIRD, *w);
-            Ok(g)
-        }
-        _ => Ok(Pattern::new(alloc)),
+    refined(alloc, sig, family, row)
+}
+
+// The root, of whatever kind the family is.
+fn rooted(alloc: Global, sig: &Signature, family: &Family) -> Result<Pattern, NoMemory>
+    requires { IsFamily sig.now family.now }
+    ensures { IfOk result (λ g. g ≡ root sig.now family.now) }
+{
+    match family {
+        Family::Parallel { a, x, u, b, y, w } => asked(alloc, sig, *a, *x, *u, *b, *y, *w),
+        _ => shape_root(alloc, sig, family),
     }
+}
+
+// The pattern of a row, of whatever kind the family is.
+fn refined(alloc: Global, sig: &Signature, family: &Family, row: &Row) -> Result<Pattern, NoMemory>
+    requires family { IsFamily sig.now family.now }
+    requires row { IsRow sig.now family.now row.now }
+    ensures { IfOk result (λ g. g ≡ row_pattern sig.now family.now row.now) }
+{
+    match row {
+        Row::Locals(locals) => {
+            let mut g = shape_root(alloc, sig, family)?;
+            put_columns(&mut g, family, locals.as_slice());
+            Ok(g)
+        }
+        Row::Same => shape_root(alloc, sig, family),
+        Row::Different => match family {
+            Family::Parallel { a, x, u, b, y, w } => apart(alloc, sig, *a, *x, *u, *b, *y, *w),
+            _ => Ok(Pattern::new(alloc)),
+        },
+    }
+}
+
+// The root of the family's shape.
+fn shape_root(alloc: Global, sig: &Signature, family: &Family) -> Result<Pattern, NoMemory>
+    requires { IsShape sig.now (shape_of family.now) }
+    ensures { IfOk result (λ g. g ≡ root_of sig.now (shape_of family.now)) }
+{
+    let mut g = Pattern::new(alloc);
+    for n in 0..family.nodes() {
+        if let Some(agent) = family.node_type(n) {
+            g.add_node(sig, agent)?;
+        }
+    }
+    put_bonds(&mut g, family);
+    Ok(g)
+}
+
+// The bonds of the family's shape.
+fn put_bonds(g: &mut Pattern, family: &Family)
+    requires apart { AreApart (ends (shape_of family.now).bonds) }
+    requires unbound { AllByRecursion (IsOpen g.old) (ends (shape_of family.now).bonds) }
+    ensures { g.new ≡ with_bonds g.old (shape_of family.now).bonds }
+{
+    for k in 0..family.bonds() {
+        if let Some(bond) = family.bond(k) {
+            put_bond(g, bond);
+        }
+    }
+}
+
+// A local state at each column of the family.
+fn put_columns(g: &mut Pattern, family: &Family, locals: &[Local])
+    requires apart { AreApart (shape_of family.now).columns }
+    requires unbound { AllByRecursion (IsOpen g.old) (shape_of family.now).columns }
+    ensures { g.new ≡ with_columns g.old (shape_of family.now).columns locals.now }
+{
+    for k in 0..locals.len() {
+        if let Some(column) = family.column(k) {
+            put_local(g, column, locals[k]);
+        }
+    }
+}
+
+// A node that asks for two partners of one type: the root of a parallel family.
+fn asked(
+    alloc: Global,
+    sig: &Signature,
+    a: AgentType,
+    x: SiteNo,
+    u: SiteNo,
+    b: AgentType,
+    y: SiteNo,
+    w: SiteNo,
+) -> Result<Pattern, NoMemory>
+    requires { IsFamily sig.now (Parallel a x u b y w) }
+    ensures { IfOk result (λ g. g ≡ root sig.now (Parallel a x u b y w)) }
+{
+    let mut g = blank(alloc, sig, &[a])?;
+    g.set_link(FIRST, x, LinkTest::Partner(b, y));
+    g.set_link(FIRST, u, LinkTest::Partner(b, w));
+    Ok(g)
+}
+
+// A node with bonds to two nodes of one type.
+fn apart(
+    alloc: Global,
+    sig: &Signature,
+    a: AgentType,
+    x: SiteNo,
+    u: SiteNo,
+    b: AgentType,
+    y: SiteNo,
+    w: SiteNo,
+) -> Result<Pattern, NoMemory>
+    requires { IsShape sig.now (different a x u b y w) }
+    ensures { IfOk result (λ g. g ≡ root_of sig.now (different a x u b y w)) }
+{
+    let mut g = blank(alloc, sig, &[a, b, b])?;
+    put_bond(&mut g, bond_between(0, x, 1, y));
+    put_bond(&mut g, bond_between(0, u, 2, w));
+    Ok(g)
 }
 
 // Nodes of the types, without tests.
@@ -108,12 +178,17 @@ fn blank(alloc: Global, sig: &Signature, types: &[AgentType]) -> Result<Pattern,
     Ok(g)
 }
 
-// A bond between a site of the first node and a site of another.
-fn bond(g: &mut Pattern, site: SiteNo, other: NodeNo, other_site: SiteNo)
-    requires { CanJoin g.old 0 site other other_site }
-    ensures { g.new ≡ with_bond g.old 0 site other other_site }
+// A bond.
+fn put_bond(g: &mut Pattern, bond: Bond)
+    requires { CanJoin g.old bond }
+    ensures { g.new ≡ with_bond g.old bond.first.node bond.first.site bond.second.node bond.second.site }
 {
-    g.join(FIRST, site, other, other_site);
+    g.join(
+        bond.first.node,
+        bond.first.site,
+        bond.second.node,
+        bond.second.site,
+    );
 }
 
 // The test that a state stands for.
@@ -136,36 +211,11 @@ pub(crate) fn link_test_of(link: LocalLink) -> LinkTest
     }
 }
 
-// A local state at a site that has no bond to a node.
-fn put_local(g: &mut Pattern, node: NodeNo, site: SiteNo, local: Local)
-    requires exists { HasNodeSite g.old node site }
-    requires unbound { IsNoBond (link_test g.old node site) }
-    ensures { g.new ≡ with_local g.old node site local }
+// A local state at a site.
+fn put_local(g: &mut Pattern, at: NodeSite, local: Local)
+    requires { IsOpen g.old at }
+    ensures { g.new ≡ with_local g.old at.node at.site local }
 {
-    g.set_state(node, site, state_test_of(local.state));
-    g.set_link(node, site, link_test_of(local.link));
-}
-
-// The two local states at a site of the first node and at one of the second.
-fn put_ends(g: &mut Pattern, p: SiteNo, q: SiteNo, locals: &[Local])
-    requires first { HasNodeSite g.old 0 p }
-    requires second { HasNodeSite g.old 1 q }
-    requires first_unbound { IsNoBond (link_test g.old 0 p) }
-    requires second_unbound { IsNoBond (link_test g.old 1 q) }
-    requires two { length locals.now ≡ 2 }
-    ensures { (l k : Local) → locals.now ≡ l ∷ k ∷ [] → g.new ≡ with_local (with_local g.old 0 p l) 1 q k }
-{
-    put_local(g, FIRST, p, locals[0]);
-    put_local(g, SECOND, q, locals[1]);
-}
-
-// A local state at each of some different sites of the first node, which have no bond to a node.
-fn put_locals(g: &mut Pattern, sites: &[SiteNo], locals: &[Local])
-    requires exist { (k s : ℕ) → slice_get sites.now k ≡ Some s → HasNodeSite g.old 0 s }
-    requires unbound { (s : ℕ) → IsNoBond (link_test g.old 0 s) }
-    ensures { g.new ≡ with_locals g.old 0 sites.now locals.now }
-{
-    for (site, local) in sites.iter().zip(locals) {
-        put_local(g, FIRST, *site, *local);
-    }
+    g.set_state(at.node, at.site, state_test_of(local.state));
+    g.set_link(at.node, at.site, link_test_of(local.link));
 }

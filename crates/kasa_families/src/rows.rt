@@ -63,8 +63,8 @@ pub trait Rows {
     /// The least number at or after `from` of a row of the family that is compatible with g where the family's root
     /// stands, None exactly where there is none.
     fn first_compatible(&self, f: FamilyNo, g: &Pattern, spot: Spot, from: usize) -> Option<usize>
-        requires { (family : Family) × (slice_get (families_of (tables self.now)) f ≡ Some family) × StandsAt g.now family (place_of spot) × HasNamedSites g.now family }
-        ensures { IsLeastFrom (IsCompatibleRow (tables self.now) f g.now (place_of spot)) from result };
+        requires { (family : Family) × (slice_get (families_of (tables self.now)) f ≡ Some family) × StandsAt g.now family (place_of g.now family spot) × HasNamedSites g.now family }
+        ensures { IsLeastFrom (IsCompatibleRow (tables self.now) f g.now spot) from result };
 
     /// The least number at or after `from` of a family whose root's first node has the type, None exactly where there is
     /// none.

@@ -103,6 +103,33 @@ fn parallel() -> Family {
     }
 }
 
+// Bar(l,r) and Cart(hook,load{empty full}).
+fn carts(rt: &impl Abort, alloc: Global) -> Result<Signature, Fail> {
+    let mut sig = Signature::new(alloc);
+    let bar = add_type(rt, &mut sig, b"Bar")?;
+    add_site(rt, &mut sig, bar, b"l", &[])?;
+    add_site(rt, &mut sig, bar, b"r", &[])?;
+    let cart = add_type(rt, &mut sig, b"Cart")?;
+    add_site(rt, &mut sig, cart, b"hook", &[])?;
+    add_site(rt, &mut sig, cart, b"load", &[b"empty", b"full"])?;
+    Ok(sig)
+}
+
+// The chain of two agents of type 1 over one of type 0.
+fn chain(y: u8, z: u8) -> Family {
+    Family::Chain {
+        a: AgentType(1),
+        x: SiteNo(0),
+        p: SiteNo(1),
+        b: AgentType(0),
+        y: SiteNo(y),
+        z: SiteNo(z),
+        c: AgentType(1),
+        w: SiteNo(0),
+        q: SiteNo(1),
+    }
+}
+
 fn free(state: u8) -> Local {
     Local {
         state: Some(StateNo(state)),
@@ -205,6 +232,31 @@ fn parallel_rows_have_their_texts(rt: HostRuntime) -> Result<(), Fail> {
         &Row::Different,
         b"Plate(a[1],b[2]),Rail(a[1]),Rail(b[2])",
     )
+}
+
+#[test]
+fn rows_of_chains_have_their_texts(rt: HostRuntime) -> Result<(), Fail> {
+    let alloc = rt.alloc();
+    let sig = carts(&rt, alloc)?;
+    let bars = chain(0, 1);
+    has_root(
+        &rt,
+        alloc,
+        &sig,
+        &bars,
+        b"Cart(hook[1]),Bar(l[1],r[2]),Cart(hook[2])",
+    )?;
+    let passed = row(&rt, alloc, &[free(0), free(1)]);
+    has_row(
+        &rt,
+        alloc,
+        &sig,
+        &bars,
+        &passed,
+        b"Cart(hook[1],load{empty}[.]),Bar(l[1],r[2]),Cart(hook[2],load{full}[.])",
+    )?;
+    assert!(rt; !is_family(&sig, &chain(1, 1)));
+    Ok(())
 }
 
 fn keeps_locals(rt: &impl Abort, alloc: Global, locals: &[Local]) {

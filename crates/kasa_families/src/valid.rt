@@ -1,12 +1,14 @@
 // Which families and rows are valid over a signature.
-ghost use Rattle.std.specs.Prelude.{◌≡◌, ℕ, ◌<◌, ◌≤◌, [], ◌∷◌, Some, length, slice_get, IsTrue, ◌↔◌};
+ghost use Rattle.std.specs.Prelude.{◌≡◌, ℕ, ◌<◌, ◌≤◌, Some, length, slice_get, IsTrue, ◌↔◌};
 ghost use Rattle.kasa_graph.specs.Signature.{state_counts, HasSite};
 ghost use Rattle.kasa_families.specs.declared.row.Local.{Local};
-ghost use Rattle.kasa_families.specs.Family.{Ascends, IsFamily};
-ghost use Rattle.kasa_families.specs.Row.{IsLocalState, IsLocalLink, IsLocal, AreLocals, IsRow};
+ghost use Rattle.kasa_families.specs.Local.{IsLocalState, IsLocalLink, IsLocal};
+ghost use Rattle.kasa_families.specs.Shape.{Nth, AreColumns};
+ghost use Rattle.kasa_families.specs.Family.{Ascends, IsFamily, shape_of};
+ghost use Rattle.kasa_families.specs.Row.{IsRow};
 ghost use Rattle.kasa_families.specs.Table.{HasShape};
 
-use crate::{Family, Local, LocalLink, Row};
+use crate::{Family, Local, LocalLink, NodeSite, Row};
 use kasa_graph::Signature;
 use kasa_num::{AgentType, SiteNo, StateNo};
 
@@ -34,6 +36,27 @@ pub fn is_family(sig: &Signature, family: &Family) -> bool
                 && x != u
                 && y != w
         }
+        Family::Chain {
+            a,
+            x,
+            p,
+            b,
+            y,
+            z,
+            c,
+            w,
+            q,
+        } => {
+            has_site(sig, *a, *x)
+                && has_site(sig, *a, *p)
+                && has_site(sig, *b, *y)
+                && has_site(sig, *b, *z)
+                && has_site(sig, *c, *w)
+                && has_site(sig, *c, *q)
+                && p != x
+                && y != z
+                && q != w
+        }
     }
 }
 
@@ -42,16 +65,15 @@ pub fn is_family(sig: &Signature, family: &Family) -> bool
 pub fn is_row(sig: &Signature, family: &Family, row: &Row) -> bool
     ensures { IsTrue result ↔ IsRow sig.now family.now row.now }
 {
-    match (family, row) {
-        (Family::View { agent, sites }, Row::Locals(locals)) => {
-            are_locals(sig, *agent, sites.as_slice(), locals.as_slice())
-        }
-        (Family::Across { a, p, b, q, .. }, Row::Locals(locals)) => {
-            are_ends(sig, *a, *p, *b, *q, locals.as_slice())
-        }
-        (Family::Parallel { .. }, Row::Same) => true,
-        (Family::Parallel { .. }, Row::Different) => true,
-        _ => false,
+    match family {
+        Family::Parallel { .. } => match row {
+            Row::Locals(_) => false,
+            _ => true,
+        },
+        _ => match row {
+            Row::Locals(locals) => are_columns(sig, family, locals.as_slice()),
+            _ => false,
+        },
     }
 }
 
@@ -60,14 +82,15 @@ pub fn is_row(sig: &Signature, family: &Family, row: &Row) -> bool
 pub fn has_shape(family: &Family, row: &Row) -> bool
     ensures { IsTrue result ↔ HasShape family.now row.now }
 {
-    match (family, row) {
-        (Family::View { agent: _, sites }, Row::Locals(locals)) => {
-            locals.as_slice().len() == sites.as_slice().len()
-        }
-        (Family::Across { .. }, Row::Locals(locals)) => locals.as_slice().len() == 2,
-        (Family::Parallel { .. }, Row::Same) => true,
-        (Family::Parallel { .. }, Row::Different) => true,
-        _ => false,
+    match family {
+        Family::Parallel { .. } => match row {
+            Row::Locals(_) => false,
+            _ => true,
+        },
+        _ => match row {
+            Row::Locals(locals) => locals.as_slice().len() == family.columns(),
+            _ => false,
+        },
     }
 }
 
@@ -92,30 +115,37 @@ fn has_site(sig: &Signature, agent: AgentType, site: SiteNo) -> bool
     (site.0 as usize) < sig.sites(agent)
 }
 
-fn are_locals(sig: &Signature, agent: AgentType, sites: &[SiteNo], locals: &[Local]) -> bool
-    ensures { IsTrue result ↔ AreLocals sig.now agent sites.now locals.now }
+// There is a local state for each column, and each is valid.
+fn are_columns(sig: &Signature, family: &Family, locals: &[Local]) -> bool
+    ensures { IsTrue result ↔ AreColumns sig.now (shape_of family.now).types (shape_of family.now).columns locals.now }
 {
-    for (site, local) in sites.iter().zip(locals) {
-        if !is_local(sig, agent, *site, *local) {
+    if locals.len() != family.columns() {
+        return false;
+    }
+    for k in 0..locals.len() {
+        if !is_local_at(sig, family, k, locals[k]) {
             return false;
         }
     }
-    sites.len() == locals.len()
+    true
 }
 
-fn are_ends(
-    sig: &Signature,
-    a: AgentType,
-    p: SiteNo,
-    b: AgentType,
-    q: SiteNo,
-    locals: &[Local],
-) -> bool
-    ensures { IsTrue result ↔ ((l k : Local) × (locals.now ≡ l ∷ k ∷ []) × IsLocal sig.now a p l × IsLocal sig.now b q k) }
+// There is such a column, and the local state is valid there.
+fn is_local_at(sig: &Signature, family: &Family, k: usize, local: Local) -> bool
+    ensures { IsTrue result ↔ Nth (shape_of family.now).columns k (λ s. Nth (shape_of family.now).types s.node (λ a. IsLocal sig.now a s.site local)) }
 {
-    match locals {
-        [first, second] => is_local(sig, a, p, *first) && is_local(sig, b, q, *second),
-        _ => false,
+    match family.column(k) {
+        None => false,
+        Some(at) => is_local_of(sig, family, at, local),
+    }
+}
+
+fn is_local_of(sig: &Signature, family: &Family, at: NodeSite, local: Local) -> bool
+    ensures { IsTrue result ↔ Nth (shape_of family.now).types at.node (λ a. IsLocal sig.now a at.site local) }
+{
+    match family.node_type(at.node.0 as usize) {
+        None => false,
+        Some(agent) => is_local(sig, agent, at.site, local),
     }
 }
 

@@ -5,7 +5,11 @@ use Rattle.kasa_graph.specs.declared.mixture.Agent.{Agent}
 use Rattle.kasa_graph.specs.Signature.{TypeEntry}
 use Rattle.kasa_graph.specs.Lists.{Has, AllDifferent}
 use Rattle.kasa_families.specs.declared.family.Family.{Family}
-use Rattle.kasa_families.specs.declared.family.Family.TheVariants.{View, Across, Parallel}
+use Rattle.kasa_families.specs.declared.family.Family.TheVariants.{Parallel}
+use Rattle.std.proofs.lemmas.Slice.Zip.{AllZip-long}
+use Rattle.kasa_families.specs.Family.{shape_of}
+use Rattle.kasa_families.specs.Local.{IsLocal}
+use Rattle.kasa_families.specs.Shape.{Nth}
 use Rattle.kasa_families.specs.declared.row.Row.{Row}
 use Rattle.kasa_families.specs.declared.row.Row.TheVariants.{Locals, Same, Different}
 use Rattle.kasa_families.specs.Row.{IsRow}
@@ -14,7 +18,7 @@ use Rattle.kasa_families.specs.Table.{Table, AreTables, families_of, rows_of, Ha
 use Rattle.kasa_rules.specs.declared.model.Model.{Model}
 use Rattle.kasa_rules.specs.Rule.{RuleParts}
 use Rattle.kasa_views.specs.Results.{IsResult}
-use Rattle.kasa_views.proofs.ComesLemmas.{length-locals}
+use Rattle.kasa_views.proofs.Forward.{length-locals}
 use Rattle.kasa_pre.specs.Closed.{IsYielded, IsClosed}
 use Rattle.kasa_pre.proofs.AllowedLemmas.{IsAllowed-within}
 use Rattle.kasa_fixpoint.specs.declared.growing.Growing.{Growing}
@@ -106,10 +110,10 @@ AreDue-initial model tables m family rows init are row has =
 
 -- what is due has the shape of its family
 pub HasShape-row : (sig : List TypeEntry) (family : Family) (row : Row) → IsRow sig family row → HasShape family row
-HasShape-row sig (View a sites) (Locals locals) ok = length-locals sig a sites locals ok
-HasShape-row sig (Across a x p b y q) (Locals (l ∷ k ∷ [])) ok = refl
 HasShape-row sig (Parallel a x u b y w) Same ok = tt
 HasShape-row sig (Parallel a x u b y w) Different ok = tt
+HasShape-row sig (Parallel a x u b y w) (Locals locals) ok = absurd ok
+HasShape-row sig family (Locals locals) ok = AllZip-long (λ s l. Nth (shape_of family).types s.node (λ a. IsLocal sig a s.site l)) (shape_of family).columns locals ok
 HasShape-row sig family row ok = absurd ok
 
 -- ---- one after another

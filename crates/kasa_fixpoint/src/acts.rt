@@ -1,5 +1,6 @@
 // Families that a rule can change: those of a type that it names, and all where it may touch the partner of any agent.
-ghost use Rattle.std.specs.Prelude.{◌≡◌, ◌↔◌, ◌⊎◌, ℕ, ◌<◌, true, Some, length, IsTrue};
+ghost use Rattle.std.specs.Prelude.{◌≡◌, ◌↔◌, ◌⊎◌, ℕ, ◌<◌, true, Some, length, slice_get, IsTrue};
+ghost use Rattle.kasa_families.specs.Family.{family_types};
 ghost use Rattle.kasa_graph.specs.Pattern.{agent_at, link_test, HasNodeSite};
 ghost use Rattle.kasa_rules.specs.Rule.{IsRuleOver, made_type, touched};
 ghost use Rattle.kasa_pre.specs.Yields.{LeavesOpen, Names};
@@ -58,17 +59,21 @@ fn leaves_open(link: LinkTest) -> bool
 pub(crate) fn names_type_of(rule: &Rule, family: &Family) -> bool
     ensures { IsTrue result ↔ NamesTypeOf rule.now family.now }
 {
-    match family {
-        Family::View { agent, .. } => names(rule, *agent),
-        Family::Across { a, b, .. } => names_either(rule, *a, *b),
-        Family::Parallel { a, b, .. } => names_either(rule, *a, *b),
+    for n in 0..family.nodes() {
+        if names_node(rule, family, n) {
+            return true;
+        }
     }
+    false
 }
 
-fn names_either(rule: &Rule, a: AgentType, b: AgentType) -> bool
-    ensures { IsTrue result ↔ (Names rule.now a ⊎ Names rule.now b) }
+fn names_node(rule: &Rule, family: &Family, n: usize) -> bool
+    ensures { IsTrue result ↔ ((a : ℕ) × (slice_get (family_types family.now) n ≡ Some a) × Names rule.now a) }
 {
-    names(rule, a) || names(rule, b)
+    match family.node_type(n) {
+        None => false,
+        Some(agent) => names(rule, agent),
+    }
 }
 
 // A left or created node of the rule has the type.

@@ -1,16 +1,18 @@
 -- Words' digits and spans.
-use Rattle.std.proofs.Common.{◌≡◌, ℕ, ◌+◌, ◌-◌, ◌*◌, ◌<◌, ◌≤◌, List, [], ◌∷◌, Bool, true, false, not, length, get_or, take, Some, None, refl, arith, nat_le}
+use Rattle.std.proofs.Common.{◌≡◌, ℕ, ◌+◌, ◌-◌, ◌*◌, ◌<◌, ◌≤◌, List, Bool, true, false, not, length, get_or, take, Some, None, refl, arith, nat_le, ◌∷◌, []}
+use Rattle.kasa_syntax.specs.declared.tokens.Token.{Token}
+use Rattle.kasa_parser.specs.Words.{Word, word_of, words_of}
+use Rattle.kasa_parser.specs.Decls.{end_of, span_of}
+use Rattle.kasa_parser.specs.Steps.{has_words}
 use Rattle.std.proofs.lemmas.Bool.Decides.{nat_tests}
 use Rattle.std.proofs.lemmas.List.Folds.{list_any_at}
 use Rattle.std.proofs.lemmas.Int.Digits.{digits_value_more}
 use Rattle.std.proofs.lemmas.Str.Parse.{digits_value-take-le}
 use Rattle.std.specs.Char.{digit_value}
 use Rattle.std.specs.Str.Parse.{digits_value}
-use Rattle.kasa_syntax.specs.declared.tokens.Token.{Token}
 use Rattle.kasa_lexer.specs.Bytes.{is_digit}
-use Rattle.kasa_parser.specs.Words.{Word, word_of, words_of}
-use Rattle.kasa_parser.specs.Reader.{are_digits, end_of}
-use Rattle.kasa_parser.specs.Reading.{has_words, span_of, label_number}
+use Rattle.kasa_parser.specs.Words.{are_digits}
+use Rattle.kasa_parser.specs.Grammar.{label_number}
 
 digit-by : (bs : List ℕ) (i : ℕ) (b : Bool) → is_digit (get_or bs i 0) ≡ b → are_digits bs ≡ true → i < length bs → b ≡ true
 digit-by bs i true e h lt = refl

@@ -6,8 +6,8 @@ use Rattle.kasa_syntax.specs.declared.tokens.Token.{Token}
 use Rattle.kasa_parser.specs.Words.{Word, word_of, words_of}
 use Rattle.kasa_parser.specs.Declarations.{Declaration, is_break, goes_on, last_kind, next_kind, ends_at, ended, declarations_from}
 use Rattle.kasa_syntax.specs.declared.tokens.TokenKind.TheVariants.{Name}
-use Rattle.kasa_parser.specs.Reader.{is_none}
-use Rattle.kasa_parser.specs.Reading.{may_end, AreWithin}
+use Rattle.kasa_parser.specs.Steps.{is_none}
+use Rattle.kasa_parser.specs.Steps.{may_end, AreWithin}
 use Rattle.kasa_parser.specs.Split.{broken_from}
 
 last-is : (text : List ℕ) (t : Token) (ts : List Token) (other : Token) → last_kind (words_of text (t ∷ ts)) ≡ Some (get_or (t ∷ ts) (length ts) other).kind

@@ -1,10 +1,9 @@
--- The grammar of one declaration: which words stand for which tree. `edit` says that the words stand in a body without an
--- arrow, where an agent may have a mark, and a state or a link a `/`.
-use Rattle.std.specs.Prelude.{◌≡◌, ◌≢◌, ◌≤◌, ◌⊎◌, List, [], ◌∷◌, ◌++◌, Bool, true, false, Option, Some, None, codes}
-use Rattle.std.specs.List.{AllByRecursion}
+-- The grammar of agents and of a side's items.
+use Rattle.std.specs.Prelude.{ℕ, List, [], ◌∷◌, Bool, true, false, if◌then◌else◌, ◌&&◌, ◌==◌, nat_le, Option, Some, None}
 use Rattle.std.specs.Str.Parse.{digits_value}
 use Rattle.kasa_syntax.specs.declared.tokens.Span.{Span}
-use Rattle.kasa_syntax.specs.declared.tokens.TokenKind.TheVariants.{Number, Quoted, Percent, Arrow, BothArrow}
+use Rattle.kasa_syntax.specs.declared.tokens.TokenKind.{TokenKind}
+use Rattle.kasa_syntax.specs.declared.tokens.TokenKind.TheVariants.{Name, Number, Underscore, Symbol}
 use Rattle.kasa_syntax.specs.declared.agents.StateWord.{StateWord}
 use Rattle.kasa_syntax.specs.declared.agents.StateWord.TheVariants.{Hash, Named}
 use Rattle.kasa_syntax.specs.declared.agents.StateText.{StateText}
@@ -15,211 +14,110 @@ use Rattle.kasa_syntax.specs.declared.agents.SiteText.{SiteText}
 use Rattle.kasa_syntax.specs.declared.agents.Mark.{Mark}
 use Rattle.kasa_syntax.specs.declared.agents.Mark.TheVariants.{Plain, Plus, Minus}
 use Rattle.kasa_syntax.specs.declared.agents.AgentText.{AgentText}
-use Rattle.kasa_syntax.specs.declared.decls.SiteDecl.{SiteDecl}
-use Rattle.kasa_syntax.specs.declared.decls.AgentDecl.{AgentDecl}
-use Rattle.kasa_syntax.specs.declared.decls.InitDecl.{InitDecl}
 use Rattle.kasa_syntax.specs.declared.decls.Item.{Item}
-use Rattle.kasa_syntax.specs.declared.decls.Item.TheVariants.{Absent, Agent as agent_item}
-use Rattle.kasa_syntax.specs.declared.decls.Form.{Form}
-use Rattle.kasa_syntax.specs.declared.decls.Form.TheVariants.{Edit, Arrow as arrow_form}
-use Rattle.kasa_syntax.specs.declared.decls.RuleText.{RuleText}
-use Rattle.kasa_syntax.specs.declared.decls.Decl.{Decl}
-use Rattle.kasa_syntax.specs.declared.decls.Decl.TheVariants as decl
-use Rattle.kasa_parser.specs.Words.{Word, IsSymbol, IsName, IsUnderscore, IsDigits, IsNameOrDigits, IsKeyword, IsTokenWord, IsInterventionWord}
+use Rattle.kasa_syntax.specs.declared.decls.Item.TheVariants.{Absent, Agent}
+use Rattle.kasa_parser.specs.declared.wanted.Wanted.TheVariants as want
+use Rattle.kasa_parser.specs.Words.{Word, only, same_kind, are_digits}
+use Rattle.kasa_parser.specs.Rules.{Rule, give, word, ◌▹◌, by_first, expect, listed, symbol, maybe, in_any_order}
 
--- ---- lists: one comma may stand between two elements, and none before the first or after the last
+-- ---- single words
 
-abbrev pub IsOptionalComma : List Word → Type 0
-IsOptionalComma ws = (ws ≡ []) ⊎ ((comma : Word) × IsSymbol 44 comma × (ws ≡ comma ∷ []))
+abbrev pub name_at : TokenKind → Span → Option Span
+name_at Name span = Some span
+name_at _ span = None
 
-abbrev pub AreMore : {A : Type 0} → (List Word → A → Type 0) → List Word → List A → Type 0
-AreMore IsOne ws [] = ws ≡ []
-AreMore IsOne ws (x ∷ xs) =
-    (comma first rest : List Word) × IsOptionalComma comma × IsOne first x × AreMore IsOne rest xs × (ws ≡ comma ++ first ++ rest)
+abbrev pub name_of : Word → Option Span
+name_of w = name_at w.kind w.span
 
-abbrev pub AreListed : {A : Type 0} → (List Word → A → Type 0) → List Word → List A → Type 0
-AreListed IsOne ws [] = ws ≡ []
-AreListed IsOne ws (x ∷ xs) = (first rest : List Word) × IsOne first x × AreMore IsOne rest xs × (ws ≡ first ++ rest)
+-- `#`, a name or digits
+abbrev pub state_at : TokenKind → Word → Option StateWord
+state_at (Symbol b) w = if b == 35 then Some Hash else None
+state_at Name w = Some (Named w.span)
+state_at Number w = if are_digits w.bytes then Some (Named w.span) else None
+state_at _ w = None
+
+abbrev pub state_of : Word → Option StateWord
+state_of w = state_at w.kind w
+
+abbrev pub is_label : List ℕ → Bool
+is_label bytes = are_digits bytes && nat_le (digits_value 10 bytes) 65535
+
+-- the number of a label, where digits are one
+abbrev pub label_number : List ℕ → Option ℕ
+label_number bytes = if is_label bytes then Some (digits_value 10 bytes) else None
+
+abbrev pub label_link : Word → Option LinkWord
+label_link w = if is_label w.bytes then Some (link.Label (digits_value 10 w.bytes) w.span) else None
+
+-- `.`, `#`, `_` or a label
+abbrev pub link_at : TokenKind → Word → Option LinkWord
+link_at (Symbol b) w = if b == 46 then Some link.Free else (if b == 35 then Some link.Hash else None)
+link_at Underscore w = Some link.Bound
+link_at Number w = label_link w
+link_at _ w = None
+
+abbrev pub link_of : Word → Option LinkWord
+link_of w = link_at w.kind w
+
+abbrev pub absent_of : Word → Option Item
+absent_of w = if same_kind (Symbol 46) w.kind then Some Absent else None
 
 -- ---- sites
 
--- `#`, a name or digits
-abbrev pub IsStateWord : Word → StateWord → Type 0
-IsStateWord w Hash = IsSymbol 35 w
-IsStateWord w (Named span) = IsNameOrDigits w × (span ≡ w.span)
+abbrev pub name : Rule Span
+name = word want.Other name_of
+
+abbrev pub state_word : Rule StateWord
+state_word = word want.Other state_of
 
 -- `.`, `#`, `_`, a label, or a site, `.` and a type
-abbrev pub IsLinkWord : List Word → LinkWord → Type 0
-IsLinkWord ws link.Free = (w : Word) × IsSymbol 46 w × (ws ≡ w ∷ [])
-IsLinkWord ws link.Hash = (w : Word) × IsSymbol 35 w × (ws ≡ w ∷ [])
-IsLinkWord ws link.Bound = (w : Word) × IsUnderscore w × (ws ≡ w ∷ [])
-IsLinkWord ws (link.Label number span) =
-    (w : Word) × IsDigits w × (number ≡ digits_value 10 w.bytes) × (number ≤ 65535) × (span ≡ w.span) × (ws ≡ w ∷ [])
-IsLinkWord ws (link.Partner site agent) =
-    (s dot a : Word) × IsName s × IsSymbol 46 dot × IsName a × (site ≡ s.span) × (agent ≡ a.span) × (ws ≡ s ∷ dot ∷ a ∷ [])
+abbrev pub link_word : Rule LinkWord
+link_word =
+    by_first (only (Name ∷ [])) (name ▹ λ site. symbol 46 ▹ λ dot. name ▹ λ agent. give (link.Partner site agent))
+    (word want.Label link_of)
 
--- `/` and a word, or nothing
-abbrev pub IsRight : {A : Type 0} → (List Word → A → Type 0) → Bool → List Word → Option A → Type 0
-IsRight IsOne edit ws None = ws ≡ []
-IsRight IsOne edit ws (Some x) =
-    (edit ≡ true) × ((slash : Word) × (right : List Word) × IsSymbol 47 slash × IsOne right x × (ws ≡ slash ∷ right))
+-- `/` and what stands behind it, where an edit may be written
+abbrev pub right : {A : Type 0} → Bool → Rule A → Rule (Option A)
+right true r = maybe (only (Symbol 47 ∷ [])) (symbol 47 ▹ λ slash. r)
+right false r = give None
 
-abbrev pub IsOneStateWord : List Word → StateWord → Type 0
-IsOneStateWord ws state = (w : Word) × IsStateWord w state × (ws ≡ w ∷ [])
+abbrev pub state : Bool → Rule StateText
+state edit =
+    symbol 123 ▹ λ opening. state_word ▹ λ l. right edit state_word ▹ λ r. symbol 125 ▹ λ closing.
+    give (record { left = l; right = r })
 
-abbrev pub IsStateText : Bool → List Word → StateText → Type 0
-IsStateText edit ws state =
-    (opening closing : Word) × (left right : List Word) × IsSymbol 123 opening × IsOneStateWord left state.left
-    × IsRight IsOneStateWord edit right state.right × IsSymbol 125 closing × (ws ≡ opening ∷ left ++ right ++ closing ∷ [])
-
-abbrev pub IsLinkText : Bool → List Word → LinkText → Type 0
-IsLinkText edit ws link =
-    (opening closing : Word) × (left right : List Word) × IsSymbol 91 opening × IsLinkWord left link.left
-    × IsRight IsLinkWord edit right link.right × IsSymbol 93 closing × (ws ≡ opening ∷ left ++ right ++ closing ∷ [])
+abbrev pub link_text : Bool → Rule LinkText
+link_text edit =
+    symbol 91 ▹ λ opening. link_word ▹ λ l. right edit link_word ▹ λ r. symbol 93 ▹ λ closing.
+    give (record { left = l; right = r })
 
 -- at most one state and at most one link, in either order
-abbrev pub AreParts : Bool → List Word → Option StateText → Option LinkText → Type 0
-AreParts edit ws None None = ws ≡ []
-AreParts edit ws (Some state) None = IsStateText edit ws state
-AreParts edit ws None (Some link) = IsLinkText edit ws link
-AreParts edit ws (Some state) (Some link) =
-    (a b : List Word) × IsStateText edit a state × IsLinkText edit b link × ((ws ≡ a ++ b) ⊎ (ws ≡ b ++ a))
+abbrev pub parts : Bool → Span → Rule SiteText
+parts edit n =
+    in_any_order (only (Symbol 123 ∷ [])) (state edit) (only (Symbol 91 ∷ [])) (link_text edit) (λ s l. record { name = n; state = s; link = l })
 
-abbrev pub IsSite : Bool → List Word → SiteText → Type 0
-IsSite edit ws site =
-    (name : Word) × (parts : List Word) × IsName name × (site.name ≡ name.span) × AreParts edit parts site.state site.link
-    × (ws ≡ name ∷ parts)
+abbrev pub site : Bool → Rule SiteText
+site edit = name ▹ λ n. parts edit n
 
--- ---- agents
+-- ---- agents and items
 
-abbrev pub IsMark : Bool → List Word → Mark → Type 0
-IsMark edit ws Plain = ws ≡ []
-IsMark edit ws Plus = (edit ≡ true) × ((w : Word) × IsSymbol 43 w × (ws ≡ w ∷ []))
-IsMark edit ws Minus = (edit ≡ true) × ((w : Word) × IsSymbol 45 w × (ws ≡ w ∷ []))
+abbrev pub mark : Bool → Rule Mark
+mark true =
+    by_first (only (Symbol 43 ∷ [])) (symbol 43 ▹ λ plus. give Plus)
+    (by_first (only (Symbol 45 ∷ [])) (symbol 45 ▹ λ minus. give Minus) (give Plain))
+mark false = give Plain
 
-abbrev pub IsAgent : Bool → List Word → AgentText → Type 0
-IsAgent edit ws agent =
-    (name opening closing : Word) × (sites mark : List Word) × IsName name × (agent.name ≡ name.span) × IsSymbol 40 opening
-    × AreListed (IsSite edit) sites agent.sites × IsSymbol 41 closing × IsMark edit mark agent.mark
-    × (ws ≡ name ∷ opening ∷ sites ++ closing ∷ mark)
+abbrev pub sites : Bool → Rule (List SiteText)
+sites edit = listed (only (Name ∷ [])) (site edit)
 
--- ---- agent declarations
-
-abbrev pub IsStateName : List Word → Span → Type 0
-IsStateName ws span = (w : Word) × IsNameOrDigits w × (span ≡ w.span) × (ws ≡ w ∷ [])
-
-abbrev pub AreStates : List Word → List Span → Type 0
-AreStates ws states =
-    (opening closing : Word) × (inner : List Word) × IsSymbol 123 opening × AreListed IsStateName inner states × IsSymbol 125 closing
-    × (ws ≡ opening ∷ inner ++ closing ∷ [])
-
--- a word that the list of an agent declaration's links may have: any but brackets, and but the word for tokens
-abbrev pub IsNoBracket : Word → Type 0
-IsNoBracket w =
-    (¬ IsSymbol 40 w) × (¬ IsSymbol 41 w) × (¬ IsSymbol 91 w) × (¬ IsSymbol 93 w) × (¬ IsSymbol 123 w) × (¬ IsSymbol 125 w)
-    × (¬ IsTokenWord w)
-
--- links in a declaration are read and not used
-abbrev pub AreLinks : List Word → Type 0
-AreLinks ws =
-    (opening closing : Word) × (inner : List Word) × IsSymbol 91 opening × AllByRecursion IsNoBracket inner × IsSymbol 93 closing
-    × (ws ≡ opening ∷ inner ++ closing ∷ [])
-
--- at most one list of states and at most one list of links, in either order
-abbrev pub AreDeclaredParts : List Word → List Span → Type 0
-AreDeclaredParts ws states =
-    ((ws ≡ []) × (states ≡ [])) ⊎ AreStates ws states ⊎ (AreLinks ws × (states ≡ []))
-    ⊎ ((a b : List Word) × AreStates a states × AreLinks b × ((ws ≡ a ++ b) ⊎ (ws ≡ b ++ a)))
-
-abbrev pub IsSiteDecl : List Word → SiteDecl → Type 0
-IsSiteDecl ws site =
-    (name : Word) × (parts : List Word) × IsName name × (site.name ≡ name.span) × AreDeclaredParts parts site.states
-    × (ws ≡ name ∷ parts)
-
-abbrev pub IsAgentDecl : List Word → AgentDecl → Type 0
-IsAgentDecl ws agent =
-    (percent colon name opening closing : Word) × (sites : List Word) × IsKeyword (codes "%agent") percent × IsSymbol 58 colon
-    × IsName name × (agent.name ≡ name.span) × IsSymbol 40 opening × AreListed IsSiteDecl sites agent.sites × IsSymbol 41 closing
-    × (ws ≡ percent ∷ colon ∷ name ∷ opening ∷ sites ++ closing ∷ [])
-
--- ---- inits
-
--- a word of a count: a number, a quoted name, `+`, `-`, `*`, `/`, `(` or `)`
-abbrev pub IsCountWord : Word → Type 0
-IsCountWord w =
-    (w.kind ≡ Number) ⊎ (w.kind ≡ Quoted) ⊎ IsSymbol 43 w ⊎ IsSymbol 45 w ⊎ IsSymbol 42 w ⊎ IsSymbol 47 w ⊎ IsSymbol 40 w ⊎ IsSymbol 41 w
-
--- the last word is `(`
-abbrev pub EndsWithParenthesis : List Word → Type 0
-EndsWithParenthesis ws = (before : List Word) × (w : Word) × IsSymbol 40 w × (ws ≡ before ++ w ∷ [])
-
--- A count and a complex: agents, or agents in parentheses. A `(` directly before the first name belongs to the complex.
-abbrev pub IsCountAndComplex : List Word → List AgentText → Type 0
-IsCountAndComplex ws agents =
-    ((count complex : List Word) × AllByRecursion IsCountWord count × (¬ EndsWithParenthesis count) × AreListed (IsAgent false) complex agents
-    × (agents ≢ []) × (ws ≡ count ++ complex))
-    ⊎ ((count complex : List Word) × (opening closing : Word) × AllByRecursion IsCountWord count × IsSymbol 40 opening
-    × AreListed (IsAgent false) complex agents × (agents ≢ []) × IsSymbol 41 closing × (ws ≡ count ++ opening ∷ complex ++ closing ∷ []))
-
--- from the first byte of the first word to the last byte of the last one
-abbrev pub IsSpanOf : List Word → Span → Type 0
-IsSpanOf ws span =
-    (first last : Word) × (before after : List Word) × (ws ≡ first ∷ after) × (ws ≡ before ++ last ∷ []) × (span.start ≡ first.span.start)
-    × (span.end ≡ last.span.end)
-
-abbrev pub IsInitDecl : List Word → InitDecl → Type 0
-IsInitDecl ws init =
-    (percent colon : Word) × (rest : List Word) × IsKeyword (codes "%init") percent × IsSymbol 58 colon × IsCountAndComplex rest init.agents
-    × IsSpanOf ws init.start × (ws ≡ percent ∷ colon ∷ rest)
-
--- ---- rules
+abbrev pub agent : Bool → Rule AgentText
+agent edit =
+    name ▹ λ n. symbol 40 ▹ λ opening. sites edit ▹ λ some. symbol 41 ▹ λ closing. mark edit ▹ λ m.
+    give (record { name = n; sites = some; mark = m })
 
 -- `.`, or an agent
-abbrev pub IsItem : Bool → List Word → Item → Type 0
-IsItem edit ws Absent = (w : Word) × IsSymbol 46 w × (ws ≡ w ∷ [])
-IsItem edit ws (agent_item agent) = IsAgent edit ws agent
+abbrev pub item : Bool → Rule Item
+item edit = expect want.Item (only (Name ∷ Symbol 46 ∷ [])) (by_first (only (Name ∷ [])) (agent edit ▹ λ a. give (Agent a)) (word want.Other absent_of))
 
-abbrev pub IsArrow : Bool → Word → Type 0
-IsArrow false w = w.kind ≡ Arrow
-IsArrow true w = w.kind ≡ BothArrow
-
-abbrev pub IsBody : List Word → Form → Type 0
-IsBody ws (Edit items) = AreListed (IsItem true) ws items × (items ≢ [])
-IsBody ws (arrow_form left right both) =
-    (before after : List Word) × (arrow : Word) × AreListed (IsItem false) before left × IsArrow both arrow
-    × AreListed (IsItem false) after right × (ws ≡ before ++ arrow ∷ after)
-
--- a word that may be skipped: any but one that begins with `%`, and but arrows
-abbrev pub IsSkipped : Word → Type 0
-IsSkipped w = (w.kind ≢ Percent) × (w.kind ≢ Arrow) × (w.kind ≢ BothArrow)
-
--- a rate, which is read and not used
-abbrev pub IsOptionalRate : List Word → Type 0
-IsOptionalRate ws =
-    (ws ≡ []) ⊎ ((sign : Word) × (rate : List Word) × IsSymbol 64 sign × AllByRecursion IsSkipped rate × (ws ≡ sign ∷ rate))
-
-abbrev pub IsOptionalName : List Word → Option Span → Type 0
-IsOptionalName ws None = ws ≡ []
-IsOptionalName ws (Some span) = (w : Word) × (w.kind ≡ Quoted) × (span ≡ w.span) × (ws ≡ w ∷ [])
-
-abbrev pub IsRule : List Word → RuleText → Type 0
-IsRule ws rule =
-    (name body rate : List Word) × IsOptionalName name rule.name × IsBody body rule.form × IsOptionalRate rate × IsSpanOf ws rule.start
-    × (ws ≡ name ++ body ++ rate)
-
--- ---- declarations that are skipped
-
-abbrev pub IsSkippedDecl : List Word → Type 0
-IsSkippedDecl ws =
-    (percent : Word) × (rest : List Word) × AllByRecursion IsSkipped rest × (ws ≡ percent ∷ rest)
-    × ((IsKeyword (codes "%mod") percent × AllByRecursion (λ w. ¬ IsInterventionWord w) rest)
-    ⊎ IsKeyword (codes "%var") percent ⊎ IsKeyword (codes "%obs") percent ⊎ IsKeyword (codes "%plot") percent
-    ⊎ IsKeyword (codes "%def") percent)
-
--- ---- one declaration: what it says of the model, none where it is skipped
-
-abbrev pub IsDeclaration : List Word → Option Decl → Type 0
-IsDeclaration ws None = IsSkippedDecl ws
-IsDeclaration ws (Some (decl.Agent agent)) = IsAgentDecl ws agent
-IsDeclaration ws (Some (decl.Init init)) = IsInitDecl ws init
-IsDeclaration ws (Some (decl.Rule rule)) = IsRule ws rule
+abbrev pub items : Bool → Rule (List Item)
+items edit = listed (only (Name ∷ Symbol 46 ∷ [])) (item edit)

@@ -1,7 +1,9 @@
 pub mod Words
+pub mod Rules
 pub mod Grammar
+pub mod Steps
+pub mod Decls
+pub mod DeclFaults
 pub mod Declarations
 pub mod Parses
-pub mod Reader
-pub mod Reading
 pub mod Split

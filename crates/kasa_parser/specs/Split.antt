@@ -7,8 +7,8 @@ use Rattle.kasa_parser.specs.Words.{Word, words_of}
 use Rattle.kasa_parser.specs.Declarations.{Declaration, last_kind, next_kind, ends_at, ended, declarations_from}
 use Rattle.kasa_syntax.specs.declared.decls.Decl.{Decl}
 use Rattle.kasa_parser.specs.declared.ParseFault.{ParseFault}
-use Rattle.kasa_parser.specs.Reader.{read_all}
-use Rattle.kasa_parser.specs.Reading.{AreWithin}
+use Rattle.kasa_parser.specs.Parses.{read_all}
+use Rattle.kasa_parser.specs.Steps.{AreWithin}
 
 abbrev pub declaration_of : List ℕ → Declared → Declaration
 declaration_of text d = record { words = words_of text d.tokens.items; ending = d.ending }

@@ -1,15 +1,15 @@
 // Agents, their sites, and items.
-ghost use Rattle.std.specs.Prelude.{◌≡◌, ◌<◌, ◌≤◌, true, IfOk, IfSome, length};
-ghost use Rattle.kasa_parser.specs.Reader.{items_from, is_mark, may_edit};
-ghost use Rattle.kasa_parser.specs.Reader.Items.{fresh};
-ghost use Rattle.kasa_parser.specs.Reading.{Gives, state_word_from, right_from, state_from, link_word_from, partner_from, link_from, GivesPart, missing, GivesSite, GivesSites, GivesAgent, GivesItem, first, behind_if, mark_at};
+ghost use Rattle.std.specs.Prelude.{◌≡◌, ◌∷◌, []};
+ghost use Rattle.kasa_syntax.specs.declared.tokens.TokenKind.TheVariants.{Name as name_kind, Symbol as symbol_kind};
+ghost use Rattle.kasa_parser.specs.Words.{starts, only};
+ghost use Rattle.kasa_parser.specs.Rules.Outcome.{got};
+ghost use Rattle.kasa_parser.specs.Steps.{Gives};
+ghost use Rattle.kasa_parser.specs.Grammar.{state_word, link_word, right, state, link_text, site, sites, mark, agent, item, items};
 
 use crate::reader::{Reader, Stop};
 use crate::wanted::Wanted;
-use crate::within::Within;
 use kasa_syntax::{
-    AgentText, Item, Items, LinkText, LinkWord, Mark, SiteText, SiteTexts, Span, StateText,
-    StateWord,
+    AgentText, Item, Items, LinkText, LinkWord, Mark, SiteText, SiteTexts, StateText, StateWord,
 };
 use std::alloc::Global;
 
@@ -17,13 +17,12 @@ impl<'a> Reader<'a> {
     // ---- states and links
 
     fn state_word(&mut self) -> Result<StateWord, Stop>
-        ensures gives { Gives (state_word_from self.old) result self.new }
-        ensures fewer { length self.new ≤ length self.old }
+        ensures { Gives (state_word.read self.old) result self.new }
     {
         let Some(word) = self.peek() else {
             return Err(Stop::Stuck(Wanted::Other));
         };
-        let Some(state) = word.state_word() else {
+        let Some(state) = word.state() else {
             return Err(Stop::Stuck(Wanted::Other));
         };
         self.advance();
@@ -31,48 +30,39 @@ impl<'a> Reader<'a> {
     }
 
     // The state behind a `/`, where one may stand.
-    fn right_state(&mut self, within: Within) -> Result<Option<StateWord>, Stop>
-        ensures gives { Gives (right_from state_word_from (may_edit within) self.old) result self.new }
-        ensures fewer { length self.new ≤ length self.old }
+    fn right_state(&mut self, edit: bool) -> Result<Option<StateWord>, Stop>
+        ensures { Gives ((right edit state_word).read self.old) result self.new }
     {
-        if !self.take_symbol_if(within.may_edit(), b'/') {
+        if !edit || !self.is_at(b'/') {
             return Ok(None);
         }
+        self.symbol(b'/')?;
         Ok(Some(self.state_word()?))
     }
 
-    // What stands in braces, and the brace behind it.
-    fn state(&mut self, within: Within) -> Result<StateText, Stop>
-        ensures gives { Gives (state_from (may_edit within) self.old) result self.new }
-        ensures fewer { length self.new ≤ length self.old }
+    fn state(&mut self, edit: bool) -> Result<StateText, Stop>
+        ensures { Gives ((state edit).read self.old) result self.new }
     {
+        self.symbol(b'{')?;
         let left = self.state_word()?;
-        let right = self.right_state(within)?;
+        let right = self.right_state(edit)?;
         self.symbol(b'}')?;
         Ok(StateText { left, right })
     }
 
-    // The rest of a partner, behind its site's name.
-    fn partner(&mut self, site: Span) -> Result<LinkWord, Stop>
-        ensures gives { Gives (partner_from site self.old) result self.new }
-        ensures fewer { length self.new ≤ length self.old }
-    {
-        self.symbol(b'.')?;
-        let agent = self.name()?;
-        Ok(LinkWord::Partner { site, agent })
-    }
-
     fn link_word(&mut self) -> Result<LinkWord, Stop>
-        ensures gives { Gives (link_word_from self.old) result self.new }
-        ensures fewer { length self.new ≤ length self.old }
+        ensures { Gives (link_word.read self.old) result self.new }
     {
-        if let Some(site) = self.take_name() {
-            return self.partner(site);
+        if self.is_at_name() {
+            let site = self.name()?;
+            self.symbol(b'.')?;
+            let agent = self.name()?;
+            return Ok(LinkWord::Partner { site, agent });
         }
         let Some(word) = self.peek() else {
             return Err(Stop::Stuck(Wanted::Label));
         };
-        let Some(link) = word.link_word() else {
+        let Some(link) = word.link() else {
             return Err(Stop::Stuck(Wanted::Label));
         };
         self.advance();
@@ -80,128 +70,137 @@ impl<'a> Reader<'a> {
     }
 
     // The link behind a `/`, where one may stand.
-    fn right_link(&mut self, within: Within) -> Result<Option<LinkWord>, Stop>
-        ensures gives { Gives (right_from link_word_from (may_edit within) self.old) result self.new }
-        ensures fewer { length self.new ≤ length self.old }
+    fn right_link(&mut self, edit: bool) -> Result<Option<LinkWord>, Stop>
+        ensures { Gives ((right edit link_word).read self.old) result self.new }
     {
-        if !self.take_symbol_if(within.may_edit(), b'/') {
+        if !edit || !self.is_at(b'/') {
             return Ok(None);
         }
+        self.symbol(b'/')?;
         Ok(Some(self.link_word()?))
     }
 
-    // What stands in brackets, and the bracket behind it.
-    fn link(&mut self, within: Within) -> Result<LinkText, Stop>
-        ensures gives { Gives (link_from (may_edit within) self.old) result self.new }
-        ensures fewer { length self.new ≤ length self.old }
+    fn link_text(&mut self, edit: bool) -> Result<LinkText, Stop>
+        ensures { Gives ((link_text edit).read self.old) result self.new }
     {
+        self.symbol(b'[')?;
         let left = self.link_word()?;
-        let right = self.right_link(within)?;
+        let right = self.right_link(edit)?;
         self.symbol(b']')?;
         Ok(LinkText { left, right })
     }
 
     // ---- sites
 
-    // Reads a state or a link of a site that hasn't got one, and says whether one stood there.
-    fn part(&mut self, within: Within, site: &mut SiteText) -> Result<bool, Stop>
-        ensures gives { GivesPart within site.old self.old result site.new self.new }
-        ensures fewer { length self.new ≤ length self.old }
-        ensures smaller { IfOk result (λ more. more ≡ true → missing site.new < missing site.old) }
+    fn site(&mut self, edit: bool) -> Result<SiteText, Stop>
+        ensures { Gives ((site edit).read self.old) result self.new }
     {
-        if self.take_symbol_if(site.state.is_none(), b'{') {
-            site.state = Some(self.state(within)?);
-            return Ok(true);
-        }
-        if self.take_symbol_if(site.link.is_none(), b'[') {
-            site.link = Some(self.link(within)?);
-            return Ok(true);
-        }
-        Ok(false)
-    }
-
-    // A site of this name, which has been read.
-    fn site(&mut self, within: Within, name: Span) -> Result<SiteText, Stop>
-        ensures gives { GivesSite within name self.old result self.new }
-        ensures fewer { length self.new ≤ length self.old }
-    {
+        let name = self.name()?;
         let mut site = SiteText {
             name,
             state: None,
             link: None,
         };
-        while self.part(within, &mut site)? {}
+        if self.is_at(b'{') {
+            site.state = Some(self.state(edit)?);
+            if self.is_at(b'[') {
+                site.link = Some(self.link_text(edit)?);
+            }
+        } else if self.is_at(b'[') {
+            site.link = Some(self.link_text(edit)?);
+            if self.is_at(b'{') {
+                site.state = Some(self.state(edit)?);
+            }
+        }
         Ok(site)
     }
 
-    // The sites of an agent, and the parenthesis behind them.
-    fn sites(&mut self, alloc: Global, within: Within) -> Result<SiteTexts, Stop>
-        ensures gives { GivesSites within self.old result self.new }
-        ensures fewer { length self.new ≤ length self.old }
+    // A site goes on with a comma or its name.
+    pub fn is_at_next_site(&self) -> bool
+        ensures { result ≡ starts (only (symbol_kind 44 ∷ name_kind ∷ [])) self.now }
+    {
+        self.is_at(b',') || self.is_at_name()
+    }
+
+    // The sites of an agent.
+    fn sites(&mut self, alloc: Global, edit: bool) -> Result<SiteTexts, Stop>
+        ensures { Gives ((sites edit).read self.old) result self.new }
     {
         let mut sites = Vec::new(alloc);
-        let mut closed = self.take_symbol(b')');
-        while !closed {
-            let name = self.name()?;
-            sites.push(self.site(within, name)?)?;
-            closed = self.closes(b')');
+        if !self.is_at_name() {
+            return Ok(SiteTexts::new(sites));
+        }
+        sites.push(self.site(edit)?)?;
+        while self.is_at_next_site() {
+            self.pass_comma();
+            sites.push(self.site(edit)?)?;
         }
         Ok(SiteTexts::new(sites))
     }
 
     // ---- agents and items
 
-    fn mark(&mut self, within: Within) -> Mark
-        ensures mark { result ≡ mark_at (may_edit within) (first self.old) }
-        ensures left { self.new ≡ behind_if (is_mark result) self.old }
+    fn mark(&mut self, edit: bool) -> Mark
+        ensures { (mark edit).read self.old ≡ got result self.new }
     {
-        if self.take_symbol_if(within.may_edit(), b'+') {
-            Mark::Plus
-        } else if self.take_symbol_if(within.may_edit(), b'-') {
-            Mark::Minus
-        } else {
-            Mark::Plain
+        if edit && self.is_at(b'+') {
+            self.advance();
+            return Mark::Plus;
         }
+        if edit && self.is_at(b'-') {
+            self.advance();
+            return Mark::Minus;
+        }
+        Mark::Plain
     }
 
-    // An agent of this name, which has been read.
-    pub fn agent(&mut self, alloc: Global, within: Within, name: Span) -> Result<AgentText, Stop>
-        ensures gives { GivesAgent within name self.old result self.new }
-        ensures fewer { length self.new ≤ length self.old }
+    pub fn agent(&mut self, alloc: Global, edit: bool) -> Result<AgentText, Stop>
+        ensures { Gives ((agent edit).read self.old) result self.new }
     {
+        let name = self.name()?;
         self.symbol(b'(')?;
-        let sites = self.sites(alloc, within)?;
-        let mark = self.mark(within);
+        let sites = self.sites(alloc, edit)?;
+        self.symbol(b')')?;
+        let mark = self.mark(edit);
         Ok(AgentText { name, sites, mark })
     }
 
-    // None where no item begins.
-    fn item(&mut self, alloc: Global, within: Within) -> Result<Option<Item>, Stop>
-        ensures gives { GivesItem within self.old result self.new }
-        ensures fewer { length self.new ≤ length self.old }
-        ensures some { IfOk result (λ found. IfSome found (λ item. length self.new < length self.old)) }
+    fn is_at_item(&self) -> bool
+        ensures { result ≡ starts (only (name_kind ∷ symbol_kind 46 ∷ [])) self.now }
     {
-        if let Some(name) = self.take_name() {
-            return Ok(Some(Item::Agent(self.agent(alloc, within, name)?)));
-        }
-        if self.take_symbol_if(within.may_be_absent(), b'.') {
-            return Ok(Some(Item::Absent));
-        }
-        Ok(None)
+        self.is_at_name() || self.is_at(b'.')
     }
 
-    // The items up to where none begins, and maybe none.
-    pub fn items(&mut self, alloc: Global, within: Within) -> Result<Items, Stop>
-        ensures { Gives (items_from within fresh self.old) result self.new }
+    fn is_at_next_item(&self) -> bool
+        ensures { result ≡ starts (only (symbol_kind 44 ∷ name_kind ∷ symbol_kind 46 ∷ [])) self.now }
+    {
+        self.is_at(b',') || self.is_at_item()
+    }
+
+    fn item(&mut self, alloc: Global, edit: bool) -> Result<Item, Stop>
+        ensures { Gives ((item edit).read self.old) result self.new }
+    {
+        if self.is_at_name() {
+            return Ok(Item::Agent(self.agent(alloc, edit)?));
+        }
+        if !self.is_at(b'.') {
+            return Err(Stop::Stuck(Wanted::Item));
+        }
+        self.advance();
+        Ok(Item::Absent)
+    }
+
+    pub fn items(&mut self, alloc: Global, edit: bool) -> Result<Items, Stop>
+        ensures { Gives ((items edit).read self.old) result self.new }
     {
         let mut items = Vec::new(alloc);
-        let mut comma = false;
-        while let Some(item) = self.item(alloc, within)? {
-            items.push(item)?;
-            comma = self.take_symbol(b',');
+        if !self.is_at_item() {
+            return Ok(Items::new(items));
         }
-        if comma {
-            return Err(Stop::Stuck(Wanted::Item));
+        items.push(self.item(alloc, edit)?)?;
+        while self.is_at_next_item() {
+            self.pass_comma();
+            items.push(self.item(alloc, edit)?)?;
         }
         Ok(Items::new(items))
     }

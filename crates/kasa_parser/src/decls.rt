@@ -1,50 +1,22 @@
 // Declarations.
-ghost use Rattle.std.specs.Prelude.{◌≡◌, ◌<◌, ◌≤◌, List, true, false, IfOk, OnOk, length};
+ghost use Rattle.std.specs.Prelude.{◌≡◌, ◌∷◌, [], true, false};
 ghost use Rattle.std.specs.List.{list_any};
-ghost use Rattle.kasa_parser.specs.Words.{Word};
-ghost use Rattle.kasa_parser.specs.Reader.{site_decls_from, states_or_none, count_from, form_from, unskipped, unskipped_mod, declaration_from, is_edited_site, is_mark, is_edited, edit_form};
-ghost use Rattle.kasa_parser.specs.Reader.SiteDecls.{decls_opened};
-ghost use Rattle.kasa_parser.specs.Reading.{Gives, state_name_from, GivesStates, GivesLinks, GivesDeclaredPart, missing_declared, GivesDeclared, agent_decl_text, agents_from, closed_from, init_text, arrow_from, rate_from, rule_text, skipped_from, span_of, IsAtKeyword};
+ghost use Rattle.kasa_syntax.specs.declared.tokens.TokenKind.TheVariants.{Name as name_kind, Number as number_kind, Quoted as quoted_kind, Percent as percent_kind, Arrow as arrow_kind, BothArrow as both_kind, Symbol as symbol_kind};
+ghost use Rattle.kasa_parser.specs.Words.{Word, starts, only, has};
+ghost use Rattle.kasa_parser.specs.Rules.{got, behind, up_to, is_up_to, expect, listed_some, maybe, word};
+ghost use Rattle.kasa_parser.specs.Grammar.{agent, items};
+ghost use Rattle.kasa_parser.specs.declared.wanted.Wanted.TheVariants.{Item as an_item, Other as other};
+ghost use Rattle.kasa_parser.specs.Decls.{is_edited_site, is_mark, is_edited, state_names, states, links, site_decls, agent_text, an_agent, init_agents, rule_text, states_or_none, site_decl, quoted_of, state_name_of, last_or, counted, run_of, run_kinds, run_test, closed, arrow, body_behind, body, rate, count};
+ghost use Rattle.kasa_parser.specs.Steps.{Gives};
 
 use crate::reader::{Reader, Stop};
+use crate::run::Run;
 use crate::wanted::Wanted;
-use crate::within::Within;
-use crate::word::Word;
 use kasa_syntax::{
-    AgentDecl, AgentTexts, Decl, Form, InitDecl, Item, Items, Mark, RuleText, SiteDecl, SiteDecls,
+    AgentDecl, AgentText, AgentTexts, Form, Item, Items, Mark, RuleText, SiteDecl, SiteDecls,
     SiteText, Span, Spans,
 };
 use std::alloc::Global;
-use std::marker::Model;
-
-// A declared site, with its states and whether its links have been read.
-#[derive(Drop)]
-struct DeclaredSite {
-    name: Span,
-    states: Option<Spans>,
-    links: bool,
-}
-
-impl Model for DeclaredSite {
-    ghost use Rattle.kasa_parser.specs.Reader.{DeclaredSite};
-
-    ghost Value = { DeclaredSite };
-
-    ghost view = { λ s. record { name = s.name; states = s.states; links = s.links } };
-}
-
-impl DeclaredSite {
-    fn finish(self, alloc: Global) -> SiteDecl
-        ensures { result ≡ record { name = self.name; states = states_or_none self.states } }
-    {
-        let DeclaredSite { name, states, .. } = self;
-        let states = match states {
-            None => Spans::new(Vec::new(alloc)),
-            Some(states) => states,
-        };
-        SiteDecl { name, states }
-    }
-}
 
 fn is_edited_site(site: &SiteText) -> bool
     ensures { result ≡ is_edited_site site.now }
@@ -88,298 +60,298 @@ fn has_edited_item(items: &[Item]) -> bool
     items.iter().any(is_edited)
 }
 
-// A body without an arrow has at least one item.
-fn edit_form(items: Items) -> Result<Form, Stop>
-    ensures { (left : List Word) → Gives (edit_form items left) result left }
-{
-    if items.as_slice().is_empty() {
-        return Err(Stop::Stuck(Wanted::Item));
-    }
-    Ok(Form::Edit(items))
-}
-
 impl<'a> Reader<'a> {
+    // ---- runs of words
+
+    // Passes words of a run.
+    pub fn run(&mut self, which: Run) -> Result<(), Stop>
+        ensures { Gives ((run_of which).read self.old) result self.new }
+    {
+        while let Some(word) = self.peek() {
+            if word.ends_run(which) {
+                break;
+            }
+            if !word.is_in_run(which) {
+                return Err(Stop::Stuck(Wanted::Other));
+            }
+            self.advance();
+        }
+        Ok(())
+    }
+
+    // Passes a count, and says whether its last word is `(`.
+    fn count(&mut self) -> Result<bool, Stop>
+        ensures { Gives (counted.read self.old) result self.new }
+    {
+        let mut after_open = false;
+        while let Some(word) = self.peek() {
+            let Some(is_open) = word.count() else {
+                break;
+            };
+            after_open = is_open;
+            self.advance();
+        }
+        Ok(after_open)
+    }
+
     // ---- agent declarations
 
     fn state_name(&mut self) -> Result<Span, Stop>
-        ensures gives { Gives (state_name_from self.old) result self.new }
-        ensures fewer { length self.new ≤ length self.old }
-        ensures shorter { OnOk result (length self.new < length self.old) }
+        ensures { Gives ((word other state_name_of).read self.old) result self.new }
     {
         let Some(word) = self.peek() else {
             return Err(Stop::Stuck(Wanted::Other));
         };
-        if !word.is_state_name() {
+        let Some(name) = word.state_name() else {
             return Err(Stop::Stuck(Wanted::Other));
-        }
+        };
         self.advance();
-        Ok(word.span)
+        Ok(name)
     }
 
-    // The states of a site, and the brace behind them.
-    fn states(&mut self, alloc: Global) -> Result<Spans, Stop>
-        ensures gives { GivesStates self.old result self.new }
-        ensures fewer { length self.new ≤ length self.old }
+    fn is_at_state_name(&self) -> bool
+        ensures { result ≡ starts (only (name_kind ∷ number_kind ∷ [])) self.now }
+    {
+        match self.peek() {
+            None => false,
+            Some(word) => word.may_be_state_name(),
+        }
+    }
+
+    fn is_at_next_state(&self) -> bool
+        ensures { result ≡ starts (only (symbol_kind 44 ∷ name_kind ∷ number_kind ∷ [])) self.now }
+    {
+        self.is_at(b',') || self.is_at_state_name()
+    }
+
+    fn state_names(&mut self, alloc: Global) -> Result<Spans, Stop>
+        ensures { Gives (state_names.read self.old) result self.new }
     {
         let mut states = Vec::new(alloc);
-        let mut closed = self.take_symbol(b'}');
-        while !closed {
+        if !self.is_at_state_name() {
+            return Ok(Spans::new(states));
+        }
+        states.push(self.state_name()?)?;
+        while self.is_at_next_state() {
+            self.pass_comma();
             states.push(self.state_name()?)?;
-            closed = self.closes(b'}');
         }
         Ok(Spans::new(states))
     }
 
-    // Passes the links of a site and the bracket behind them: any words but brackets and `%token`.
-    fn links(&mut self) -> Result<(), Stop>
-        ensures gives { GivesLinks self.old result self.new }
-        ensures fewer { length self.new ≤ length self.old }
+    fn states(&mut self, alloc: Global) -> Result<Spans, Stop>
+        ensures { Gives (states.read self.old) result self.new }
     {
-        while let Some(word) = self.peek() {
-            if word.is_symbol(b']') {
-                self.advance();
-                return Ok(());
-            }
-            if word.is_bracket() || word.is_keyword(b"%token") {
-                break;
-            }
-            self.advance();
-        }
-        Err(Stop::Stuck(Wanted::Other))
+        self.symbol(b'{')?;
+        let states = self.state_names(alloc)?;
+        self.symbol(b'}')?;
+        Ok(states)
     }
 
-    // Reads the states or the links of a site that hasn't got them, and says whether they stood
-    // there.
-    fn declared_part(&mut self, alloc: Global, site: &mut DeclaredSite) -> Result<bool, Stop>
-        ensures gives { GivesDeclaredPart site.old self.old result site.new self.new }
-        ensures fewer { length self.new ≤ length self.old }
-        ensures smaller { IfOk result (λ more. more ≡ true → missing_declared site.new < missing_declared site.old) }
+    fn maybe_states(&mut self, alloc: Global) -> Result<Spans, Stop>
+        ensures { Gives (behind ((maybe (only (symbol_kind 123 ∷ [])) states).read self.old) (λ s left. got (states_or_none s) left)) result self.new }
     {
-        if site.states.is_none() && self.take_symbol(b'{') {
-            site.states = Some(self.states(alloc)?);
-            return Ok(true);
+        if self.is_at(b'{') {
+            return self.states(alloc);
         }
-        if !site.links && self.take_symbol(b'[') {
+        Ok(Spans::new(Vec::new(alloc)))
+    }
+
+    fn site_decl(&mut self, alloc: Global) -> Result<SiteDecl, Stop>
+        ensures { Gives (site_decl.read self.old) result self.new }
+    {
+        let name = self.name()?;
+        if self.is_at(b'[') {
             self.links()?;
-            site.links = true;
-            return Ok(true);
+            let states = self.maybe_states(alloc)?;
+            return Ok(SiteDecl { name, states });
         }
-        Ok(false)
+        let is_first = self.is_at(b'{');
+        let states = self.maybe_states(alloc)?;
+        if is_first && self.is_at(b'[') {
+            self.links()?;
+        }
+        Ok(SiteDecl { name, states })
     }
 
-    fn site_decl(&mut self, alloc: Global, name: Span) -> Result<DeclaredSite, Stop>
-        ensures gives { GivesDeclared name self.old result self.new }
-        ensures fewer { length self.new ≤ length self.old }
-    {
-        let mut site = DeclaredSite {
-            name,
-            states: None,
-            links: false,
-        };
-        while self.declared_part(alloc, &mut site)? {}
-        Ok(site)
-    }
-
-    // The sites of an agent declaration, and the parenthesis behind them.
     fn site_decls(&mut self, alloc: Global) -> Result<SiteDecls, Stop>
-        ensures { Gives (site_decls_from decls_opened self.old) result self.new }
+        ensures { Gives (site_decls.read self.old) result self.new }
     {
         let mut sites = Vec::new(alloc);
-        let mut closed = self.take_symbol(b')');
-        while !closed {
-            let name = self.name()?;
-            let site = self.site_decl(alloc, name)?;
-            sites.push(site.finish(alloc))?;
-            closed = self.closes(b')');
+        if !self.is_at_name() {
+            return Ok(SiteDecls::new(sites));
+        }
+        sites.push(self.site_decl(alloc)?)?;
+        while self.is_at_next_site() {
+            self.pass_comma();
+            sites.push(self.site_decl(alloc)?)?;
         }
         Ok(SiteDecls::new(sites))
     }
 
-    // An agent declaration behind `%agent`.
-    fn agent_decl(&mut self, alloc: Global) -> Result<AgentDecl, Stop>
-        ensures { Gives (agent_decl_text self.old) result self.new }
+    pub fn agent_decl(&mut self, alloc: Global) -> Result<AgentDecl, Stop>
+        ensures { Gives (agent_text.read self.old) result self.new }
     {
         self.symbol(b':')?;
         let name = self.name()?;
         self.symbol(b'(')?;
         let sites = self.site_decls(alloc)?;
-        self.end()?;
+        self.symbol(b')')?;
         Ok(AgentDecl { name, sites })
+    }
+
+    fn links(&mut self) -> Result<(), Stop>
+        ensures { Gives (links.read self.old) result self.new }
+    {
+        self.symbol(b'[')?;
+        self.run(Run::Links)?;
+        self.symbol(b']')
     }
 
     // ---- inits
 
-    // Passes a count up to the first name, and says whether a `(` stands directly before it.
-    fn count(&mut self) -> Result<bool, Stop>
-        ensures { Gives (count_from false self.old) result self.new }
-    {
-        let mut after_open = false;
-        while let Some(word) = self.peek() {
-            if word.is_name() {
-                return Ok(after_open);
-            }
-            if !word.is_count() {
-                break;
-            }
-            after_open = word.is_symbol(b'(');
-            self.advance();
-        }
-        Err(Stop::Stuck(Wanted::Other))
-    }
-
-    fn agents(&mut self, alloc: Global) -> Result<AgentTexts, Stop>
-        ensures { Gives (agents_from self.old) result self.new }
-    {
-        let mut agents = Vec::new(alloc);
-        let mut comma = false;
-        while let Some(name) = self.take_name() {
-            agents.push(self.agent(alloc, Within::Complex, name)?)?;
-            comma = self.take_symbol(b',');
-        }
-        if comma {
-            return Err(Stop::Stuck(Wanted::Item));
-        }
-        Ok(AgentTexts::new(agents))
-    }
-
     // The parenthesis behind a complex, where one is open.
     fn closed(&mut self, is_open: bool) -> Result<(), Stop>
-        ensures { Gives (closed_from is_open self.old) result self.new }
+        ensures { Gives ((closed is_open).read self.old) result self.new }
     {
         if is_open { self.symbol(b')') } else { Ok(()) }
     }
 
-    // An init declaration behind `%init`.
-    fn init(&mut self, alloc: Global, start: Span) -> Result<InitDecl, Stop>
-        ensures { Gives (init_text start self.old) result self.new }
+    fn an_agent(&mut self, alloc: Global) -> Result<AgentText, Stop>
+        ensures { Gives (an_agent.read self.old) result self.new }
+    {
+        if !self.is_at_name() {
+            return Err(Stop::Stuck(Wanted::Item));
+        }
+        self.agent(alloc, false)
+    }
+
+    fn agents(&mut self, alloc: Global) -> Result<AgentTexts, Stop>
+        ensures { Gives ((listed_some (only (name_kind ∷ [])) an_agent).read self.old) result self.new }
+    {
+        let mut agents = Vec::new(alloc);
+        agents.push(self.an_agent(alloc)?)?;
+        while self.is_at_next_site() {
+            self.pass_comma();
+            agents.push(self.an_agent(alloc)?)?;
+        }
+        Ok(AgentTexts::new(agents))
+    }
+
+    pub fn init(&mut self, alloc: Global) -> Result<AgentTexts, Stop>
+        ensures { Gives (init_agents.read self.old) result self.new }
     {
         self.symbol(b':')?;
         let after_open = self.count()?;
         let agents = self.agents(alloc)?;
         self.closed(after_open)?;
-        self.end()?;
-        Ok(InitDecl { start, agents })
+        Ok(agents)
     }
 
     // ---- rules
 
-    fn form(&mut self, alloc: Global) -> Result<Form, Stop>
-        ensures { Gives (form_from self.old) result self.new }
+    // Nothing is left, or one of the symbols that may follow items stands first.
+    fn is_at_right_end(&self) -> bool
+        ensures { result ≡ is_up_to (symbol_kind 64 ∷ []) self.now }
     {
-        let left = self.items(alloc, Within::Body)?;
         match self.peek() {
-            Some(word) if word.is_arrow() => self.right_side(alloc, left, word.is_both_arrow()),
-            _ => edit_form(left),
+            None => true,
+            Some(word) => word.is_symbol(b'@'),
         }
     }
 
-    // The right side behind an arrow, with the left one.
-    fn right_side(&mut self, alloc: Global, left: Items, both: bool) -> Result<Form, Stop>
-        ensures { Gives (arrow_from left both self.old) result self.new }
+    fn is_at_arrow(&self) -> bool
+        ensures { result ≡ starts (only (arrow_kind ∷ both_kind ∷ [])) self.now }
     {
-        if has_edited_item(left.as_slice()) {
+        match self.peek() {
+            None => false,
+            Some(word) => word.is_arrow(),
+        }
+    }
+
+    fn is_at_left_end(&self) -> bool
+        ensures { result ≡ is_up_to (arrow_kind ∷ both_kind ∷ symbol_kind 64 ∷ []) self.now }
+    {
+        match self.peek() {
+            None => true,
+            Some(word) => word.is_arrow() || word.is_symbol(b'@'),
+        }
+    }
+
+    fn right_items(&mut self, alloc: Global) -> Result<Items, Stop>
+        ensures { Gives ((up_to an_item (symbol_kind 64 ∷ []) (items false)).read self.old) result self.new }
+    {
+        let items = self.items(alloc, false)?;
+        if !self.is_at_right_end() {
             return Err(Stop::Stuck(Wanted::Item));
         }
+        Ok(items)
+    }
+
+    fn left_items(&mut self, alloc: Global) -> Result<Items, Stop>
+        ensures { Gives ((up_to an_item (arrow_kind ∷ both_kind ∷ symbol_kind 64 ∷ []) (items true)).read self.old) result self.new }
+    {
+        let items = self.items(alloc, true)?;
+        if !self.is_at_left_end() {
+            return Err(Stop::Stuck(Wanted::Item));
+        }
+        Ok(items)
+    }
+
+    fn arrow(&mut self, alloc: Global, left: Items) -> Result<Form, Stop>
+        ensures { Gives ((arrow left).read self.old) result self.new }
+    {
+        let Some(word) = self.peek() else {
+            return Err(Stop::Stuck(Wanted::Other));
+        };
+        let Some(both) = word.arrow() else {
+            return Err(Stop::Stuck(Wanted::Other));
+        };
         self.advance();
-        let right = self.items(alloc, Within::Side)?;
+        let right = self.right_items(alloc)?;
         Ok(Form::Arrow { left, right, both })
     }
 
-    // Passes words up to one that begins with `%`, or an arrow.
-    fn skip(&mut self)
-        ensures { self.new ≡ unskipped self.old }
+    fn body(&mut self, alloc: Global) -> Result<Form, Stop>
+        ensures { Gives (body.read self.old) result self.new }
     {
-        while let Some(word) = self.peek() {
-            if word.is_percent() || word.is_arrow() {
-                break;
-            }
-            self.advance();
+        let items = self.left_items(alloc)?;
+        if items.as_slice().is_empty() {
+            return self.arrow(alloc, items);
         }
+        if !has_edited_item(items.as_slice()) && self.is_at_arrow() {
+            return self.arrow(alloc, items);
+        }
+        Ok(Form::Edit(items))
     }
 
-    // The same, and up to an intervention.
-    fn skip_mod(&mut self)
-        ensures { self.new ≡ unskipped_mod self.old }
-    {
-        while let Some(word) = self.peek() {
-            if word.is_percent() || word.is_arrow() || word.is_intervention() {
-                break;
-            }
-            self.advance();
-        }
-    }
-
-    // Nothing, or a rate up to the end, which is not used.
+    // A rate, where one stands, which is not used.
     fn rate(&mut self) -> Result<(), Stop>
-        ensures { Gives (rate_from self.old) result self.new }
+        ensures { Gives (behind (rate.read self.old) (λ some left. got tt left)) result self.new }
     {
-        if self.is_empty() {
-            return Ok(());
+        if self.is_at(b'@') {
+            self.advance();
+            self.run(Run::Rate)?;
         }
-        if !self.take_symbol(b'@') {
-            return Err(Stop::Stuck(Wanted::Item));
-        }
-        self.skip();
-        self.end()
+        Ok(())
     }
 
-    fn rule(&mut self, alloc: Global, start: Span) -> Result<RuleText, Stop>
-        ensures { Gives (rule_text start self.old) result self.new }
+    // The quoted name of a rule, where one stands.
+    fn quoted(&mut self) -> Option<Span>
+        ensures { (maybe (only (quoted_kind ∷ [])) (word other quoted_of)).read self.old ≡ got result self.new }
     {
-        let name = self.take_quoted();
-        let form = self.form(alloc)?;
+        let word = self.peek()?;
+        let name = word.quoted()?;
+        self.advance();
+        Some(name)
+    }
+
+    pub fn rule(&mut self, alloc: Global, start: Span) -> Result<RuleText, Stop>
+        ensures { Gives (behind (rule_text.read self.old) (λ text left. got (text start) left)) result self.new }
+    {
+        let name = self.quoted();
+        let form = self.body(alloc)?;
         self.rate()?;
         Ok(RuleText { start, name, form })
-    }
-
-    // ---- one declaration
-
-    // A declaration that begins with this keyword.
-    fn keyword(&mut self, alloc: Global, word: &Word, start: Span) -> Result<Option<Decl>, Stop>
-        requires first { IsAtKeyword word.now self.old }
-        requires start { start ≡ span_of self.old }
-        ensures { Gives (declaration_from self.old) result self.new }
-    {
-        if word.is_keyword(b"%agent") {
-            self.advance();
-            return Ok(Some(Decl::Agent(self.agent_decl(alloc)?)));
-        }
-        if word.is_keyword(b"%init") {
-            self.advance();
-            return Ok(Some(Decl::Init(self.init(alloc, start)?)));
-        }
-        self.skipped(word)?;
-        Ok(None)
-    }
-
-    // A declaration that is skipped, and begins with this keyword.
-    fn skipped(&mut self, word: &Word) -> Result<(), Stop>
-        requires { IsAtKeyword word.now self.old }
-        ensures { Gives (skipped_from word.now self.old) result self.new }
-    {
-        if word.is_keyword(b"%mod") {
-            self.advance();
-            self.skip_mod();
-        } else if word.is_skipped_keyword() {
-            self.advance();
-            self.skip();
-        } else {
-            return Err(Stop::Stuck(Wanted::Other));
-        }
-        self.end()
-    }
-
-    // The declaration, None where it is skipped.
-    pub fn declaration(&mut self, alloc: Global) -> Result<Option<Decl>, Stop>
-        ensures { Gives (declaration_from self.old) result self.new }
-    {
-        let Some(word) = self.peek() else {
-            return Err(Stop::Stuck(Wanted::Item));
-        };
-        let start = self.span();
-        if word.is_percent() {
-            return self.keyword(alloc, &word, start);
-        }
-        Ok(Some(Decl::Rule(self.rule(alloc, start)?)))
     }
 }

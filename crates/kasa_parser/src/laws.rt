@@ -3,9 +3,10 @@ ghost use Rattle.std.specs.Prelude.{◌≡◌, List, ℕ, Option, Result};
 ghost use Rattle.kasa_syntax.specs.declared.decls.Decl.{Decl};
 ghost use Rattle.kasa_parser.specs.declared.ParseFault.{ParseFault};
 ghost use Rattle.kasa_parser.specs.Words.{Word};
-ghost use Rattle.kasa_parser.specs.Grammar.{IsDeclaration};
+ghost use Rattle.kasa_parser.specs.Decls.{IsDeclaration};
 ghost use Rattle.kasa_parser.specs.Declarations.{Declaration};
-ghost use Rattle.kasa_parser.specs.Parses.{Parses, IsFault};
+ghost use Rattle.kasa_parser.specs.Parses.{Parses};
+ghost use Rattle.kasa_parser.specs.DeclFaults.{IsFault};
 
 /// The same words are no two declarations.
 pub fn words_are_one_declaration_at_most()
@@ -15,7 +16,7 @@ pub fn words_are_one_declaration_at_most()
 /// A declaration has no two faults: its words are cut at one place, and the causes exclude one
 /// another.
 pub fn a_declaration_has_one_fault_at_most()
-    ensures { (text : List ℕ) (d : Declaration) (one other : ParseFault) → IsFault text d one → IsFault text d other → one ≡ other }
+    ensures { (text : List ℕ) (d : Declaration) (one other : ParseFault) → IsFault text d.words d.ending one → IsFault text d.words d.ending other → one ≡ other }
 {}
 
 /// Two outcomes of a text's declarations are one.

@@ -1,4 +1,4 @@
-//! From the tokens of a model's text to the tree of its declarations, or the first fault.
+//! From the words of a rule's side to its items, or the first fault.
 #![tactic(auto)]
 
 mod agents;
@@ -6,9 +6,9 @@ mod decls;
 mod laws;
 mod parser;
 mod reader;
+mod run;
 mod split;
 mod wanted;
-mod within;
 mod word;
 
 use kasa_num::Place;
@@ -19,16 +19,16 @@ pub use laws::{
 pub use parser::parse;
 use thiserror::Error;
 
-/// Why the tokens of a text are no declarations.
+/// Why words are no side of a rule.
 #[derive(Debug, Drop, PartialEq, Eq, Error)]
 pub enum ParseFault {
     /// There is no memory for the tree.
     #[error("no memory")]
     NoMemory,
-    /// A token that the grammar doesn't have there, or a declaration that ends too early.
+    /// A word that the grammar doesn't have there, or a side that ends too early.
     #[error("this is not expected here")]
     Unexpected(Place),
-    /// `%token`, or `|` in a rule: tokens aren't part of the language that is read.
+    /// `%token`, or `|` where an item may stand: tokens aren't part of the language that is read.
     #[error("tokens are not read")]
     Tokens(Place),
     /// `$ADD`, `$DEL` or `$APPLY`: interventions aren't part of the language that is read.

@@ -1,35 +1,25 @@
-// From a text and its tokens to its declarations.
+// From the words of a declaration to what it says.
+
 ghost use Rattle.std.specs.Prelude.{◌≡◌, ◌≢◌, ◌≤◌, ◌++◌, ◌∷◌, List, [], None, Ok, Err, OnOk, IfOk, IfErr, length};
 ghost use Rattle.kasa_lexer.specs.Tokens.{IsOutcome as IsLexed};
 ghost use Rattle.kasa_syntax.specs.declared.decls.Decl.{Decl as SpecDecl};
 ghost use Rattle.kasa_parser.specs.Words.{Word as SpecWord, words_of};
+ghost use Rattle.kasa_parser.specs.Decls.{said_of, declaration, behind_keyword, span_of};
 ghost use Rattle.kasa_parser.specs.Declarations.{Declaration};
-ghost use Rattle.kasa_parser.specs.Parses.{IsOutcome};
-ghost use Rattle.kasa_parser.specs.Reader.{is_item_wanted, is_label_wanted, fault_at, fault_of, read_all};
-ghost use Rattle.kasa_parser.specs.Reading.{AreWithin, IsFirstWithin, first};
+ghost use Rattle.kasa_parser.specs.Parses.{IsOutcome, declaration_from, read_all};
+ghost use Rattle.kasa_parser.specs.Steps.{AreWithin, IsFirstWithin, Gives, first, fault_at, fault_of};
 ghost use Rattle.kasa_parser.specs.Split.{declaration_of, given_of, AllWithin, read_behind, given_list};
 ghost use Rattle.kasa_parser.specs.declared.ParseFault.TheVariants.{NoMemory as no_memory};
 
 use crate::ParseFault;
 use crate::reader::{Reader, Stop};
+use crate::run::{Keyword, Run};
 use crate::split::{Declared, split_tokens};
 use crate::wanted::Wanted;
 use crate::word::Word;
 use kasa_num::Place;
-use kasa_syntax::{Decl, Token, place_of};
+use kasa_syntax::{Decl, InitDecl, Span, Token, place_of};
 use std::alloc::Global;
-
-fn is_item(want: Wanted) -> bool
-    ensures { result ≡ is_item_wanted want }
-{
-    matches!(want, Wanted::Item)
-}
-
-fn is_label(want: Wanted) -> bool
-    ensures { result ≡ is_label_wanted want }
-{
-    matches!(want, Wanted::Label)
-}
 
 // The fault at a word that can't stand in a declaration with this first word.
 fn fault_at(begin: &Word, want: Wanted, word: &Word, place: Place) -> ParseFault
@@ -41,33 +31,86 @@ fn fault_at(begin: &Word, want: Wanted, word: &Word, place: Place) -> ParseFault
     if begin.is_keyword(b"%mod") && word.is_intervention() {
         return ParseFault::Intervention(place);
     }
-    if is_item(want) && word.is_symbol(b'|') && !begin.is_percent() {
-        return ParseFault::Tokens(place);
+    match want {
+        Wanted::Item if word.is_symbol(b'|') && !begin.is_percent() => ParseFault::Tokens(place),
+        Wanted::Label if word.is_digits() => ParseFault::LongLabel(place),
+        _ => ParseFault::Unexpected(place),
     }
-    if is_label(want) && word.is_digits() {
-        return ParseFault::LongLabel(place);
-    }
-    ParseFault::Unexpected(place)
 }
 
 // The fault of a declaration of which these words are left.
-fn fault_of(text: &[u8], one: &Declared, want: Wanted, left: &Reader) -> ParseFault
+fn fault_of(text: &[u8], ending: u32, all: &Reader, want: Wanted, left: &Reader) -> ParseFault
     requires few { length text.now ≤ 4194304 }
-    requires tokens { AreWithin (length text.now) one.now.tokens.items }
-    requires ending { one.now.ending ≤ length text.now }
+    requires ending { ending ≤ length text.now }
+    requires some { (first all.now ≡ None) → left.now ≡ [] }
     requires left { IsFirstWithin (length text.now) left.now }
-    requires some { (first (words_of text.now one.now.tokens.items) ≡ None) → left.now ≡ [] }
-    ensures { result ≡ fault_of text.now (declaration_of text.now one.now) want left.now }
+    ensures { result ≡ fault_of text.now ending all.now want left.now }
 {
-    let begin = Reader::new(text, one.tokens.as_slice()).peek();
-    let Some(begin) = begin else {
-        return ParseFault::Unexpected(place_of(text, one.ending));
+    let Some(begin) = all.peek() else {
+        return ParseFault::Unexpected(place_of(text, ending));
     };
     let Some(word) = left.peek() else {
-        return ParseFault::Unexpected(place_of(text, one.ending));
+        return ParseFault::Unexpected(place_of(text, ending));
     };
     let place = place_of(text, word.span.start);
     fault_at(&begin, want, &word, place)
+}
+
+impl<'a> Reader<'a> {
+    fn behind_keyword(
+        &mut self,
+        alloc: Global,
+        keyword: Keyword,
+        start: Span,
+    ) -> Result<Option<Decl>, Stop>
+        ensures { Gives (said_of start ((behind_keyword keyword).read self.old)) result self.new }
+    {
+        match keyword {
+            Keyword::Agent => Ok(Some(Decl::Agent(self.agent_decl(alloc)?))),
+            Keyword::Init => {
+                let agents = self.init(alloc)?;
+                Ok(Some(Decl::Init(InitDecl { start, agents })))
+            }
+            Keyword::Mod => {
+                self.run(Run::Mod)?;
+                Ok(None)
+            }
+            Keyword::Skipped => {
+                self.run(Run::Rate)?;
+                Ok(None)
+            }
+        }
+    }
+
+    // What the first words say, where the declaration has this span.
+    fn said(&mut self, alloc: Global, start: Span) -> Result<Option<Decl>, Stop>
+        ensures { Gives (said_of start (declaration.read self.old)) result self.new }
+    {
+        let Some(word) = self.peek() else {
+            return Err(Stop::Stuck(Wanted::Other));
+        };
+        if !word.is_percent() {
+            return Ok(Some(Decl::Rule(self.rule(alloc, start)?)));
+        }
+        let Some(keyword) = word.keyword() else {
+            return Err(Stop::Stuck(Wanted::Other));
+        };
+        self.advance();
+        self.behind_keyword(alloc, keyword, start)
+    }
+
+    // The declaration, None where it is skipped.
+    fn declaration(&mut self, alloc: Global) -> Result<Option<Decl>, Stop>
+        ensures { Gives (declaration_from self.old) result self.new }
+    {
+        if self.peek().is_none() {
+            return Err(Stop::Stuck(Wanted::Other));
+        }
+        let start = self.span();
+        let said = self.said(alloc, start)?;
+        self.end()?;
+        Ok(said)
+    }
 }
 
 // What a declaration gives.
@@ -78,11 +121,12 @@ fn read_one(alloc: Global, text: &[u8], one: &Declared) -> Result<Option<Decl>, 
     ensures ok { IfOk result (λ given. (done : List SpecDecl) (more : List Declaration) → read_behind text.now done (declaration_of text.now one.now ∷ more) ≡ read_behind text.now (done ++ given_list given) more) }
     ensures err { IfErr result (λ fault. fault ≢ no_memory → (done : List SpecDecl) (more : List Declaration) → read_behind text.now done (declaration_of text.now one.now ∷ more) ≡ Err fault) }
 {
+    let all = Reader::new(text, one.tokens.as_slice());
     let mut reader = Reader::new(text, one.tokens.as_slice());
     match reader.declaration(alloc) {
         Ok(given) => Ok(given),
         Err(Stop::NoMemory) => Err(ParseFault::NoMemory),
-        Err(Stop::Stuck(want)) => Err(fault_of(text, one, want, &reader)),
+        Err(Stop::Stuck(want)) => Err(fault_of(text, one.ending, &all, want, &reader)),
     }
 }
 

@@ -1,8 +1,11 @@
-// A reader of one declaration's words.
-ghost use Rattle.std.specs.Prelude.{◌≡◌, ◌<◌, ◌≤◌, ◌&&◌, OnOk, length, true, not};
-ghost use Rattle.kasa_parser.specs.Words.{words_of};
-ghost use Rattle.kasa_parser.specs.Reader.{all_read};
-ghost use Rattle.kasa_parser.specs.Reading.{AreWithin, Gives, first, rest, begins_symbol, behind_if, behind_element, name_at, quoted_at, behind_found, symbol_from, name_from, span_of, has_words};
+// A reader of words, from the left.
+ghost use Rattle.std.specs.Prelude.{◌≡◌, ◌∷◌, [], true, length, if◌then◌else◌};
+ghost use Rattle.kasa_syntax.specs.declared.tokens.TokenKind.TheVariants.{Name as name_kind, Symbol as symbol_kind};
+ghost use Rattle.kasa_parser.specs.Words.{words_of, rest, starts, only};
+ghost use Rattle.kasa_parser.specs.Grammar.{name};
+ghost use Rattle.kasa_parser.specs.Rules.{symbol};
+ghost use Rattle.kasa_parser.specs.Steps.{AreWithin, Gives, first, has_words};
+ghost use Rattle.kasa_parser.specs.Decls.{span_of, all_read};
 ghost use Rattle.kasa_parser.specs.declared.reader.Stop.TheVariants.{NoMemory as no_memory};
 
 use crate::wanted::Wanted;
@@ -11,8 +14,8 @@ use kasa_syntax::{Span, Token};
 use std::alloc::AllocFailed;
 use std::marker::Model;
 
-// Why a declaration can't be read on: there is no memory, or the first word that is left can't
-// stand there.
+// Why words can't be read on: there is no memory, or the first word that is left can't stand
+// there.
 #[derive(Drop)]
 pub enum Stop {
     NoMemory,
@@ -27,7 +30,7 @@ impl<T: Drop> From<AllocFailed<T>> for Stop {
     }
 }
 
-// The words of a declaration that are left.
+// The words that are left.
 #[derive(Drop)]
 pub struct Reader<'a> {
     text: &'a [u8],
@@ -38,7 +41,7 @@ impl<'a> Model for Reader<'a> {
     ghost use Rattle.std.specs.Prelude.{List};
     ghost use Rattle.std.specs.Prelude.{length};
     ghost use Rattle.kasa_parser.specs.Words.{Word, words_of};
-    ghost use Rattle.kasa_parser.specs.Reading.{AreWithin};
+    ghost use Rattle.kasa_parser.specs.Steps.{AreWithin};
 
     ghost Value = { List Word };
 
@@ -53,12 +56,6 @@ impl<'a> Reader<'a> {
         ensures { result ≡ words_of text.now tokens.now }
     {
         Reader { text, tokens }
-    }
-
-    pub fn is_empty(&self) -> bool
-        ensures { result ≡ not (has_words self.now) }
-    {
-        self.tokens.is_empty()
     }
 
     // The first word.
@@ -78,6 +75,65 @@ impl<'a> Reader<'a> {
         }
     }
 
+    // Passes the first word.
+    pub fn advance(&mut self)
+        ensures { self.new ≡ rest self.old }
+    {
+        if let [_, rest @ ..] = self.tokens {
+            self.tokens = rest;
+        }
+    }
+
+    pub fn is_at(&self, b: u8) -> bool
+        ensures { result ≡ starts (only (symbol_kind b ∷ [])) self.now }
+    {
+        match self.peek() {
+            None => false,
+            Some(word) => word.is_symbol(b),
+        }
+    }
+
+    pub fn is_at_name(&self) -> bool
+        ensures { result ≡ starts (only (name_kind ∷ [])) self.now }
+    {
+        match self.peek() {
+            None => false,
+            Some(word) => word.is_name(),
+        }
+    }
+
+    // Passes a comma that stands first.
+    pub fn pass_comma(&mut self)
+        ensures { self.new ≡ (if starts (only (symbol_kind 44 ∷ [])) self.old then rest self.old else self.old) }
+    {
+        if self.is_at(b',') {
+            self.advance();
+        }
+    }
+
+    pub fn symbol(&mut self, b: u8) -> Result<(), Stop>
+        ensures { Gives ((symbol b).read self.old) result self.new }
+    {
+        if !self.is_at(b) {
+            return Err(Stop::Stuck(Wanted::Other));
+        }
+        self.advance();
+        Ok(())
+    }
+
+    pub fn name(&mut self) -> Result<Span, Stop>
+        ensures { Gives (name.read self.old) result self.new }
+    {
+        let Some(word) = self.peek() else {
+            return Err(Stop::Stuck(Wanted::Other));
+        };
+        let Some(name) = word.name() else {
+            return Err(Stop::Stuck(Wanted::Other));
+        };
+        self.advance();
+        Ok(name)
+    }
+
     // From the first byte of the first word to the last byte of the last one.
     pub fn span(&self) -> Span
         requires { has_words self.now ≡ true }
@@ -90,109 +146,14 @@ impl<'a> Reader<'a> {
         }
     }
 
-    // Passes the first word.
-    pub fn advance(&mut self)
-        ensures { self.new ≡ rest self.old }
-    {
-        if let [_, rest @ ..] = self.tokens {
-            self.tokens = rest;
-        }
-    }
-
-    // Passes the first word if it is this symbol, and says whether it was.
-    pub fn take_symbol(&mut self, b: u8) -> bool
-        ensures found { result ≡ begins_symbol b self.old }
-        ensures left { self.new ≡ behind_if result self.old }
-    {
-        match self.peek() {
-            None => false,
-            Some(word) => {
-                let found = word.is_symbol(b);
-                if found {
-                    self.advance();
-                }
-                found
-            }
-        }
-    }
-
-    // The same, where the symbol may stand here.
-    pub fn take_symbol_if(&mut self, may: bool, b: u8) -> bool
-        ensures found { result ≡ (begins_symbol b self.old && may) }
-        ensures left { self.new ≡ behind_if result self.old }
-    {
-        if may { self.take_symbol(b) } else { false }
-    }
-
-    // Passes the first word if it is a quoted name, and gives it.
-    pub fn take_quoted(&mut self) -> Option<Span>
-        ensures found { result ≡ quoted_at (first self.old) }
-        ensures left { self.new ≡ behind_found result self.old }
-    {
-        let word = self.peek()?;
-        if !word.is_quoted() {
-            return None;
-        }
-        self.advance();
-        Some(word.span)
-    }
-
-    // Passes the first word if it is a name, and gives it.
-    pub fn take_name(&mut self) -> Option<Span>
-        ensures found { result ≡ name_at (first self.old) }
-        ensures left { self.new ≡ behind_found result self.old }
-    {
-        let word = self.peek()?;
-        if !word.is_name() {
-            return None;
-        }
-        self.advance();
-        Some(word.span)
-    }
-
-    pub fn symbol(&mut self, b: u8) -> Result<(), Stop>
-        ensures gives { Gives (symbol_from b self.old) result self.new }
-        ensures fewer { length self.new ≤ length self.old }
-    {
-        if self.take_symbol(b) {
-            Ok(())
-        } else {
-            Err(Stop::Stuck(Wanted::Other))
-        }
-    }
-
-    pub fn name(&mut self) -> Result<Span, Stop>
-        ensures gives { Gives (name_from self.old) result self.new }
-        ensures fewer { length self.new ≤ length self.old }
-        ensures shorter { OnOk result (length self.new < length self.old) }
-    {
-        match self.take_name() {
-            None => Err(Stop::Stuck(Wanted::Other)),
-            Some(name) => Ok(name),
-        }
-    }
-
-    // Passes what closes a list, and says so, or else a comma that stands there.
-    pub fn closes(&mut self, b: u8) -> bool
-        ensures found { result ≡ begins_symbol b self.old }
-        ensures left { self.new ≡ behind_element b self.old }
-        ensures fewer { length self.new ≤ length self.old }
-    {
-        if self.take_symbol(b) {
-            return true;
-        }
-        self.take_symbol(b',');
-        false
-    }
-
     // Nothing is left.
     pub fn end(&self) -> Result<(), Stop>
         ensures { Gives (all_read tt self.now) result self.now }
     {
-        if self.is_empty() {
-            Ok(())
-        } else {
+        if self.peek().is_some() {
             Err(Stop::Stuck(Wanted::Other))
+        } else {
+            Ok(())
         }
     }
 }

@@ -2,7 +2,7 @@
 ghost use Rattle.std.specs.Prelude.{◌≡◌, ◌≤◌, ◌<◌, ◌+◌, ◌^◌, ◌++◌, ◌∷◌, ◌==◌, ◌||◌, [], false, true, ℕ, List, Some, None, OnOk, IfOk, map};
 ghost use Rattle.kasa_parser.specs.Words.{Word, word_of, words_of};
 ghost use Rattle.kasa_parser.specs.Declarations.{is_break, begins_declaration, goes_on, deeper, last_kind, ends_at, ended, declarations_of};
-ghost use Rattle.kasa_parser.specs.Reading.{AreWithin, may_end};
+ghost use Rattle.kasa_parser.specs.Steps.{AreWithin, may_end};
 ghost use Rattle.kasa_parser.specs.Split.{split_from, given_of, AllWithin, AreTaken};
 
 use kasa_num::NoMemory;

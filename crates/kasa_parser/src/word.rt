@@ -1,10 +1,13 @@
 // Words: tokens with their bytes.
-ghost use Rattle.std.specs.Prelude.{◌≡◌, not};
+ghost use Rattle.std.specs.Prelude.{◌≡◌, ◌∷◌, [], not};
 ghost use Rattle.std.specs.List.{list_any};
 ghost use Rattle.kasa_lexer.specs.Bytes.{is_digit};
-ghost use Rattle.kasa_parser.specs.Reader.{are_digits, are_equal, has_symbol, is_name_kind, is_percent_kind, is_quoted_kind, is_arrow_kind, is_both_kind, is_digits_word, is_keyword, is_skipped_keyword, is_intervention, is_state_name, is_count_kind, is_bracket_kind, state_word};
-ghost use Rattle.kasa_parser.specs.Reading.{label_number, label_link, whole_link};
+ghost use Rattle.kasa_syntax.specs.declared.tokens.TokenKind.TheVariants.{Name as name_kind, Number as number_kind, Percent as percent_kind, Arrow as arrow_kind, BothArrow as both_kind, Symbol as symbol_kind};
+ghost use Rattle.kasa_parser.specs.Words.{are_digits, are_equal, is_of, has, is_digits};
+ghost use Rattle.kasa_parser.specs.Decls.{is_keyword, is_intervention, brackets, run_kinds, run_test, arrow_of, count_of, state_name_of, quoted_of, keyword_of};
+ghost use Rattle.kasa_parser.specs.Grammar.{label_number, label_link, link_of, name_of, state_of};
 
+use crate::run::{Keyword, Run};
 use kasa_syntax::{LinkWord, Span, StateWord, TokenKind};
 use std::marker::Model;
 
@@ -68,7 +71,7 @@ fn label_of(bytes: &[u8]) -> Option<u16>
 
 impl<'a> Word<'a> {
     pub fn is_symbol(&self, b: u8) -> bool
-        ensures { result ≡ has_symbol b self.now }
+        ensures { result ≡ is_of (symbol_kind b ∷ []) self.now.kind }
     {
         match self.kind {
             TokenKind::Symbol(c) => c == b,
@@ -76,116 +79,40 @@ impl<'a> Word<'a> {
         }
     }
 
+    // The name that the word is.
+    pub fn name(&self) -> Option<Span>
+        ensures { result ≡ name_of self.now }
+    {
+        match self.kind {
+            TokenKind::Name => Some(self.span),
+            _ => None,
+        }
+    }
+
     pub fn is_name(&self) -> bool
-        ensures { result ≡ is_name_kind self.now.kind }
+        ensures { result ≡ is_of (name_kind ∷ []) self.now.kind }
     {
         matches!(self.kind, TokenKind::Name)
     }
 
-    pub fn is_percent(&self) -> bool
-        ensures { result ≡ is_percent_kind self.now.kind }
-    {
-        matches!(self.kind, TokenKind::Percent)
-    }
-
-    pub fn is_quoted(&self) -> bool
-        ensures { result ≡ is_quoted_kind self.now.kind }
-    {
-        matches!(self.kind, TokenKind::Quoted)
-    }
-
-    pub fn is_arrow(&self) -> bool
-        ensures { result ≡ is_arrow_kind self.now.kind }
-    {
-        matches!(self.kind, TokenKind::Arrow | TokenKind::BothArrow)
-    }
-
-    pub fn is_both_arrow(&self) -> bool
-        ensures { result ≡ is_both_kind self.now.kind }
-    {
-        matches!(self.kind, TokenKind::BothArrow)
-    }
-
     // A number that is digits alone.
     pub fn is_digits(&self) -> bool
-        ensures { result ≡ is_digits_word self.now }
+        ensures { result ≡ is_digits self.now }
     {
         match self.kind {
             TokenKind::Number => are_digits(self.bytes),
-            _ => false,
-        }
-    }
-
-    pub fn is_keyword(&self, spelling: &[u8]) -> bool
-        ensures { result ≡ is_keyword spelling.now self.now }
-    {
-        match self.kind {
-            TokenKind::Percent => are_equal(self.bytes, spelling),
-            _ => false,
-        }
-    }
-
-    // A keyword whose declarations are skipped, and may have any words.
-    pub fn is_skipped_keyword(&self) -> bool
-        ensures { result ≡ is_skipped_keyword self.now }
-    {
-        self.is_keyword(b"%var")
-            || self.is_keyword(b"%obs")
-            || self.is_keyword(b"%plot")
-            || self.is_keyword(b"%def")
-    }
-
-    pub fn is_intervention(&self) -> bool
-        ensures { result ≡ is_intervention self.now }
-    {
-        match self.kind {
-            TokenKind::Dollar => {
-                are_equal(self.bytes, b"$ADD")
-                    || are_equal(self.bytes, b"$DEL")
-                    || are_equal(self.bytes, b"$APPLY")
-            }
-            _ => false,
-        }
-    }
-
-    // A name or digits.
-    pub fn is_state_name(&self) -> bool
-        ensures { result ≡ is_state_name self.now }
-    {
-        match self.kind {
-            TokenKind::Name => true,
-            TokenKind::Number => are_digits(self.bytes),
-            _ => false,
-        }
-    }
-
-    // A word that a count may have.
-    pub fn is_count(&self) -> bool
-        ensures { result ≡ is_count_kind self.now.kind }
-    {
-        match self.kind {
-            TokenKind::Number | TokenKind::Quoted => true,
-            TokenKind::Symbol(b) => matches!(b, b'+' | b'-' | b'*' | b'/' | b'(' | b')'),
-            _ => false,
-        }
-    }
-
-    pub fn is_bracket(&self) -> bool
-        ensures { result ≡ is_bracket_kind self.now.kind }
-    {
-        match self.kind {
-            TokenKind::Symbol(b) => matches!(b, b'(' | b')' | b'[' | b']' | b'{' | b'}'),
             _ => false,
         }
     }
 
     // The state that the word writes.
-    pub fn state_word(&self) -> Option<StateWord>
-        ensures { result ≡ state_word self.now }
+    pub fn state(&self) -> Option<StateWord>
+        ensures { result ≡ state_of self.now }
     {
         match self.kind {
             TokenKind::Symbol(b'#') => Some(StateWord::Hash),
-            _ if self.is_state_name() => Some(StateWord::Named(self.span)),
+            TokenKind::Name => Some(StateWord::Named(self.span)),
+            TokenKind::Number if are_digits(self.bytes) => Some(StateWord::Named(self.span)),
             _ => None,
         }
     }
@@ -204,8 +131,8 @@ impl<'a> Word<'a> {
     }
 
     // The link that the word writes alone.
-    pub fn link_word(&self) -> Option<LinkWord>
-        ensures { result ≡ whole_link self.now }
+    pub fn link(&self) -> Option<LinkWord>
+        ensures { result ≡ link_of self.now }
     {
         match self.kind {
             TokenKind::Symbol(b'.') => Some(LinkWord::Free),
@@ -213,6 +140,144 @@ impl<'a> Word<'a> {
             TokenKind::Underscore => Some(LinkWord::Bound),
             TokenKind::Number => self.label(),
             _ => None,
+        }
+    }
+
+    // ---- declarations
+
+    pub fn is_keyword(&self, spelling: &[u8]) -> bool
+        ensures { result ≡ is_keyword spelling.now self.now }
+    {
+        match self.kind {
+            TokenKind::Percent => are_equal(self.bytes, spelling),
+            _ => false,
+        }
+    }
+
+    pub fn is_intervention(&self) -> bool
+        ensures { result ≡ is_intervention self.now }
+    {
+        match self.kind {
+            TokenKind::Dollar => {
+                are_equal(self.bytes, b"$ADD")
+                    || are_equal(self.bytes, b"$DEL")
+                    || are_equal(self.bytes, b"$APPLY")
+            }
+            _ => false,
+        }
+    }
+
+    fn is_bracket(&self) -> bool
+        ensures { result ≡ is_of brackets self.now.kind }
+    {
+        match self.kind {
+            TokenKind::Symbol(b) => matches!(b, b'(' | b')' | b'[' | b']' | b'{' | b'}'),
+            _ => false,
+        }
+    }
+
+    pub fn is_arrow(&self) -> bool
+        ensures { result ≡ is_of (arrow_kind ∷ both_kind ∷ []) self.now.kind }
+    {
+        matches!(self.kind, TokenKind::Arrow | TokenKind::BothArrow)
+    }
+
+    pub fn is_percent(&self) -> bool
+        ensures { result ≡ is_of (percent_kind ∷ []) self.now.kind }
+    {
+        matches!(self.kind, TokenKind::Percent)
+    }
+
+    // No run goes on with the word.
+    pub fn ends_run(&self, which: Run) -> bool
+        ensures { result ≡ not (has (run_kinds which) self.now.kind) }
+    {
+        match which {
+            Run::Links => self.is_bracket(),
+            _ => self.is_percent() || self.is_arrow(),
+        }
+    }
+
+    pub fn is_in_run(&self, which: Run) -> bool
+        ensures { result ≡ run_test which self.now }
+    {
+        match which {
+            Run::Links => !self.is_keyword(b"%token"),
+            Run::Mod => !self.is_intervention(),
+            Run::Rate => true,
+        }
+    }
+
+    pub fn arrow(&self) -> Option<bool>
+        ensures { result ≡ arrow_of self.now }
+    {
+        match self.kind {
+            TokenKind::Arrow => Some(false),
+            TokenKind::BothArrow => Some(true),
+            _ => None,
+        }
+    }
+
+    // Whether the word of a count is `(`.
+    pub fn count(&self) -> Option<bool>
+        ensures { result ≡ count_of self.now }
+    {
+        match self.kind {
+            TokenKind::Number | TokenKind::Quoted => Some(false),
+            TokenKind::Symbol(b'(') => Some(true),
+            TokenKind::Symbol(b'+' | b'-' | b'*' | b'/' | b')') => Some(false),
+            _ => None,
+        }
+    }
+
+    // A name or digits.
+    pub fn state_name(&self) -> Option<Span>
+        ensures { result ≡ state_name_of self.now }
+    {
+        match self.kind {
+            TokenKind::Name => Some(self.span),
+            TokenKind::Number if are_digits(self.bytes) => Some(self.span),
+            _ => None,
+        }
+    }
+
+    pub fn may_be_state_name(&self) -> bool
+        ensures { result ≡ is_of (name_kind ∷ number_kind ∷ []) self.now.kind }
+    {
+        matches!(self.kind, TokenKind::Name | TokenKind::Number)
+    }
+
+    // The quoted name that the word is.
+    pub fn quoted(&self) -> Option<Span>
+        ensures { result ≡ quoted_of self.now }
+    {
+        match self.kind {
+            TokenKind::Quoted => Some(self.span),
+            _ => None,
+        }
+    }
+
+    // What the word begins, if it is a keyword.
+    pub fn keyword(&self) -> Option<Keyword>
+        ensures { result ≡ keyword_of self.now }
+    {
+        if self.is_keyword(b"%agent") {
+            return Some(Keyword::Agent);
+        }
+        if self.is_keyword(b"%init") {
+            return Some(Keyword::Init);
+        }
+        if self.is_keyword(b"%mod") {
+            return Some(Keyword::Mod);
+        }
+        let is_skipped = self.is_keyword(b"%var")
+            || self.is_keyword(b"%obs")
+            || self.is_keyword(b"%plot")
+            || self.is_keyword(b"%def");
+        if is_skipped {
+            Some(Keyword::Skipped)
+        } else {
+            None
         }
     }
 }

@@ -12,7 +12,7 @@ use Rattle.kasa_graph.specs.Lists.{Has}
 use Rattle.kasa_graph.specs.Signature.{state_counts}
 use Rattle.kasa_graph.specs.Pattern.{agent_at, site_at, link_test, types_of, HasNodeSite, LinkImplies}
 use Rattle.kasa_families.specs.declared.family.Family.{Family}
-use Rattle.kasa_families.specs.declared.family.Family.TheVariants.{View, Across, Parallel}
+use Rattle.kasa_families.specs.declared.family.Family.TheVariants.{Parallel}
 use Rattle.kasa_families.specs.declared.row.Row.{Row}
 use Rattle.kasa_families.specs.declared.row.Row.TheVariants.{Locals, Same, Different}
 use Rattle.kasa_families.specs.Family.{family_types, root}
@@ -29,9 +29,9 @@ use Rattle.kasa_pre.specs.Place.{ImpliesAt, IsPlace}
 use Rattle.kasa_pre.specs.Before.{place_from, place_of, outside_types}
 use Rattle.kasa_pre.specs.Yields.{Yields, LeavesOpen, ActsOn}
 use Rattle.kasa_graph.proofs.ShapeLemmas.{IsShaped, agent_at-node, node_of_agent, node_of_site, site_or_any}
-use Rattle.kasa_pre.proofs.RowLemmas.{nodes_of, length-row_pattern}
+use Rattle.kasa_families.proofs.RowPattern.{length_of, row_types, types_of-row_pattern}
 use Rattle.kasa_graph.proofs.TestLemmas.{agent_at-types}
-use Rattle.kasa_pre.proofs.RowPlace.{row_types, types_of-row_pattern, through, IsPlace-through, places, length-places, places-at, places-from, places-different, IsPlace-root}
+use Rattle.kasa_pre.proofs.RowPlace.{through, IsPlace-through, places, length-places, places-at, places-from, places-different, IsPlace-root}
 use Rattle.kasa_families.proofs.TableLemmas.{IsFamily-of_tables}
 use Rattle.kasa_pre.proofs.CoverLemmas.{root_size}
 use Rattle.kasa_pre.proofs.SameRow.{same_row}
@@ -105,25 +105,23 @@ ImpliesAt-place g p q same a (Partner b y) h = h
 ImpliesAt-place g p q same a (To n t) h = (h.0, same n h.0 h.1, h.2)
 
 root_fits : (sig : List TypeEntry) (family : Family) (row : Row) → IsRow sig family row → (i : ℕ) → i < root_size family → i < length (row_pattern sig family row)
-root_fits sig family row ok i within = rw (length-row_pattern sig family row ok) (by_family family row within)
+root_fits sig family row ok i within = rw (length_of _ (row_types family row) (types_of-row_pattern sig family row ok)) (by_family family row within)
   where
-    by_family : (family : Family) (row : Row) → i < root_size family → i < nodes_of family row
-    by_family (View a sites) row h = h
-    by_family (Across a x p b y q) row h = h
+    by_family : (family : Family) (row : Row) → i < root_size family → i < length (row_types family row)
     by_family (Parallel a x u b y w) (Locals ls) h = omega arith
     by_family (Parallel a x u b y w) Same h = omega arith
     by_family (Parallel a x u b y w) Different h = omega arith
+    by_family family row h = h
 
 -- the types of a row's nodes are those of its family
 row_type : (family : Family) (row : Row) (i a : ℕ) → slice_get (row_types family row) i ≡ Some a → Has (family_types family) a
-row_type (View b sites) row i a e = (i, e)
-row_type (Across b x p c y q) row i a e = (i, e)
 row_type (Parallel b x u c y w) (Locals ls) i a e = (i, e)
 row_type (Parallel b x u c y w) Same i a e = (i, e)
 row_type (Parallel b x u c y w) Different zero a e = (0, e)
 row_type (Parallel b x u c y w) Different (suc zero) a e = (1, e)
 row_type (Parallel b x u c y w) Different (suc (suc zero)) a e = (1, e)
 row_type (Parallel b x u c y w) Different (suc (suc (suc i))) a e = absurd cc
+row_type family row i a e = (i, e)
 
 module _ (sig : List TypeEntry) (tables : List Table) (ok : AreTables sig tables) (r : RuleParts) (rule : IsRuleOver sig r) (family : Family) (has : Has (families_of tables) family) (row : Row) (row_ok : IsRow sig family row) (not : ¬ ActsOn r family) (yields : Yields sig tables r family row) where
   type_of_node : (i a : ℕ) → agent_at (row_pattern sig family row) i ≡ Some a → Has (family_types family) a

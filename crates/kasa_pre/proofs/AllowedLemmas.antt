@@ -5,14 +5,17 @@ use Rattle.kasa_graph.specs.declared.pattern.Node.{Node}
 use Rattle.kasa_graph.specs.declared.pattern.LinkTest.TheVariants.{To}
 use Rattle.kasa_graph.specs.Pattern.{agent_at, link_test, Implies}
 use Rattle.kasa_families.specs.declared.family.Family.{Family}
-use Rattle.kasa_families.specs.declared.family.Family.TheVariants.{View, Across, Parallel}
+use Rattle.kasa_families.specs.declared.family.Family.TheVariants.{Parallel}
 use Rattle.kasa_families.specs.declared.row.Local.{Local}
 use Rattle.kasa_families.specs.declared.row.Row.{Row}
 use Rattle.kasa_families.specs.declared.row.Row.TheVariants.{Locals, Same, Different}
-use Rattle.kasa_families.specs.Family.{root}
+use Rattle.kasa_families.specs.declared.shape.NodeSite.{NodeSite}
+use Rattle.kasa_families.specs.Shape.{ColumnsAgree}
+use Rattle.kasa_families.specs.Family.{shape_of, root}
+use Rattle.kasa_families.proofs.ColumnLemmas.{Nth-to}
 use Rattle.kasa_graph.proofs.TestLemmas.{agent_at-same}
 use Rattle.kasa_pre.specs.Place.{IsPlace}
-use Rattle.kasa_pre.specs.Compatible.{LocalAgrees, LocalsAgree, CanBeSame, CanBeDifferent, IsCompatible}
+use Rattle.kasa_pre.specs.Compatible.{LocalAgrees, CanBeSame, CanBeDifferent, IsCompatible}
 use Rattle.kasa_pre.proofs.Implied.{To-implied, StateImplies-trans, StatesAgree-general, LinksAgree-general, ImpliesAt-trans}
 use Rattle.kasa_graph.specs.Signature.{TypeEntry}
 use Rattle.kasa_families.specs.Table.{Table, IsWithin, families_of}
@@ -44,11 +47,12 @@ module _ (g h : List Node) (general : Implies h g) where
     link = LinksAgree-general g h same_types _ _ _ (general.links n s) ok.link;
   }
 
-  LocalsAgree-general : (n : ℕ) (sites : List ℕ) (locals : List Local) → LocalsAgree h n sites locals → LocalsAgree g n sites locals
-  LocalsAgree-general n [] [] ok = tt
-  LocalsAgree-general n (s ∷ sites) (l ∷ locals) ok = (LocalAgrees-general n s l ok.0, LocalsAgree-general n sites locals ok.1)
-  LocalsAgree-general n [] (l ∷ locals) ok = ok
-  LocalsAgree-general n (s ∷ sites) [] ok = ok
+  ColumnsAgree-general : (place : List ℕ) (columns : List NodeSite) (locals : List Local) → ColumnsAgree h place columns locals → ColumnsAgree g place columns locals
+  ColumnsAgree-general place [] [] ok = ok
+  ColumnsAgree-general place [] (l ∷ locals) ok = ok
+  ColumnsAgree-general place (s ∷ columns) [] ok = ok
+  ColumnsAgree-general place (s ∷ columns) (l ∷ locals) ok =
+      (Nth-to place s.node (λ n. LocalAgrees h n s.site l) (λ n. LocalAgrees g n s.site l) (λ n. LocalAgrees-general n s.site l) ok.0, ColumnsAgree-general place columns locals ok.1)
 
   -- a bond that g names is h's too
   bond_of_general : (n x m t : ℕ) → link_test g n x ≡ To m t → link_test h n x ≡ To m t
@@ -67,10 +71,10 @@ module _ (g h : List Node) (general : Implies h g) where
   }
 
   IsCompatible-general : (family : Family) (place : List ℕ) (row : Row) → IsCompatible h family place row → IsCompatible g family place row
-  IsCompatible-general (View a sites) (n ∷ []) (Locals locals) ok = LocalsAgree-general n sites locals ok
-  IsCompatible-general (Across a x p b y q) (n ∷ m ∷ []) (Locals (l ∷ k ∷ [])) ok = (LocalAgrees-general n p l ok.0, LocalAgrees-general m q k ok.1)
   IsCompatible-general (Parallel a x u b y w) (n ∷ []) Same ok = CanBeSame-general n x u y w ok
   IsCompatible-general (Parallel a x u b y w) (n ∷ []) Different ok = CanBeDifferent-general n x u ok
+  IsCompatible-general (Parallel a x u b y w) place row ok = absurd ok
+  IsCompatible-general family place (Locals locals) ok = ColumnsAgree-general place (shape_of family).columns locals ok
   IsCompatible-general family place row ok = absurd ok
 
   -- what is more general than an allowed pattern on the same nodes is allowed

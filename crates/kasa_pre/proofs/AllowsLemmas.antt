@@ -8,7 +8,8 @@ use Rattle.kasa_graph.specs.Pattern.{agent_at}
 use Rattle.kasa_graph.proofs.ListLemmas.{some_at, below_or}
 use Rattle.kasa_families.proofs.TableLemmas.{table_of}
 use Rattle.kasa_families.specs.declared.family.Family.{Family}
-use Rattle.kasa_families.specs.declared.family.Family.TheVariants.{View, Across, Parallel}
+use Rattle.kasa_families.specs.declared.family.Family.TheVariants.{Parallel}
+use Rattle.kasa_families.proofs.FamilyShape.{some_types}
 use Rattle.kasa_families.specs.declared.compatible.Spot.{Spot}
 use Rattle.kasa_families.specs.Family.{root}
 use Rattle.kasa_families.specs.Spot.{place_of}
@@ -30,14 +31,14 @@ unfolding rows_of
 rows_of-at tables f t at = rw at refl
 
 module _ (sig : List TypeEntry) (tables : List Table) (ok : AreTables sig tables) (g : List Node) where
-  row_of_number : (f : ℕ) (family : Family) (place : List ℕ) → slice_get (families_of tables) f ≡ Some family → ((k : ℕ) × IsCompatibleRow tables f g place k) → HasCompatible tables g family place
-  row_of_number f family place named (k, (other, row, also, at, fits)) =
+  row_of_number : (f : ℕ) (family : Family) (spot : Spot) → slice_get (families_of tables) f ≡ Some family → ((k : ℕ) × IsCompatibleRow tables f g spot k) → HasCompatible tables g family (place_of g family spot)
+  row_of_number f family spot named (k, (other, row, also, at, fits)) =
       let t = table_of tables f family named in
       let same : other ≡ family = same_Some other family (sym also ∙ named) in
       (row, record { table = t.0; among = (f, t.1); of_family = t.2; has_row = (k, rw (rows_of-at tables f t.0 t.1) at at) }, rw same at fits)
 
-  number_of_row : (f : ℕ) (family : Family) (place : List ℕ) → slice_get (families_of tables) f ≡ Some family → HasCompatible tables g family place → (k : ℕ) × IsCompatibleRow tables f g place k
-  number_of_row f family place named (row, holds, fits) =
+  number_of_row : (f : ℕ) (family : Family) (spot : Spot) → slice_get (families_of tables) f ≡ Some family → HasCompatible tables g family (place_of g family spot) → (k : ℕ) × IsCompatibleRow tables f g spot k
+  number_of_row f family spot named (row, holds, fits) =
       let j = holds.among.0 in
       let there : slice_get (families_of tables) j ≡ Some family = family_of tables j holds.table holds.among.1 ∙ ap Some holds.of_family in
       let same : j ≡ f = ok.different j f family there named in
@@ -45,13 +46,13 @@ module _ (sig : List TypeEntry) (tables : List Table) (ok : AreTables sig tables
       (holds.has_row.0, (family, row, named, rw (rows_of-at tables f holds.table at) holds.has_row.1, fits))
 
   -- the one place of the family's root that begins with the node decides
-  pub IsNumberAllowedFrom-spot : (n f : ℕ) (family : Family) (spot : Spot) (b : Bool) → slice_get (families_of tables) f ≡ Some family → IsOnlySpot sig family g n (Some spot) → IsTrue b ↔ ((k : ℕ) × IsCompatibleRow tables f g (place_of spot) k) → IsTrue b ↔ IsNumberAllowedFrom sig tables g n f
+  pub IsNumberAllowedFrom-spot : (n f : ℕ) (family : Family) (spot : Spot) (b : Bool) → slice_get (families_of tables) f ≡ Some family → IsOnlySpot sig family g n (Some spot) → IsTrue b ↔ ((k : ℕ) × IsCompatibleRow tables f g spot k) → IsTrue b ↔ IsNumberAllowedFrom sig tables g n f
   IsNumberAllowedFrom-spot n f family spot b named (stands, only) tells = (
     λ yes other also place at.
         let same : family ≡ other = same_Some family other (sym named ∙ also) in
         let at' : StandsFrom sig family g n place = rw same at in
-        rw (← same, only place at') (row_of_number f family (place_of spot) named (tells.0 yes)),
-    λ all. tells.1 (number_of_row f family (place_of spot) named (all family named (place_of spot) stands)),
+        rw (← same, only place at') (row_of_number f family spot named (tells.0 yes)),
+    λ all. tells.1 (number_of_row f family spot named (all family named (place_of g family spot) stands)),
   )
 
   -- ---- the families whose root begins with a type
@@ -84,9 +85,8 @@ module _ (sig : List TypeEntry) (tables : List Table) (ok : AreTables sig tables
   -- ---- all nodes
 
   positive : (family : Family) → 0 < root_size family
-  positive (View a sites) = omega arith
-  positive (Across a x p b y q) = omega arith
   positive (Parallel a x u b y w) = omega arith
+  positive family = some_types family
 
   pub IsAllowed-from : ((n : ℕ) → n < length g → AreAllowedFrom sig tables g n) → IsAllowed sig tables g
   IsAllowed-from all family has place at =

@@ -1,5 +1,5 @@
 -- Tables that hold all rows that occur in a mixture allow each pattern that stands there.
-use Rattle.std.proofs.Common.{◌≡◌, ℕ, zero, suc, ◌<◌, List, [], ◌∷◌, ◌++◌, refl, sym, ap, ◌∙◌, length, map, get_or, arith}
+use Rattle.std.proofs.Common.{◌≡◌, ℕ, ◌<◌, List, [], ◌∷◌, ◌++◌, refl, sym, ap, ◌∙◌, length, map, get_or, arith}
 use Rattle.std.specs.Prelude.{Option, Some, slice_get, option_map}
 use Rattle.std.proofs.lemmas.Option.{slice_get-map, slice_get_within, slice_get-get_or}
 use Rattle.kasa_graph.specs.declared.pattern.Node.{Node}
@@ -7,32 +7,35 @@ use Rattle.kasa_graph.specs.declared.mixture.Agent.{Agent}
 use Rattle.kasa_graph.specs.Signature.{TypeEntry}
 use Rattle.kasa_graph.specs.declared.pattern.LinkTest.{LinkTest}
 use Rattle.kasa_graph.specs.declared.pattern.LinkTest.TheVariants.{Any, Free, Bound, Partner, To}
-use Rattle.kasa_graph.specs.Signature.{HasSite}
-use Rattle.kasa_graph.specs.Pattern.{link_test, blank_node, with_link, with_bond, HasNodeSite, LinksAgree}
+use Rattle.kasa_graph.specs.Pattern.{link_test, LinksAgree}
 use Rattle.kasa_graph.specs.Mixture.{type_in, state_in, partner_in, IsMixtureOver}
 use Rattle.kasa_graph.specs.Embedding.{IsEmbedding, MeetsLink}
 use Rattle.kasa_families.specs.declared.family.Family.{Family}
-use Rattle.kasa_families.specs.declared.family.Family.TheVariants.{View, Across, Parallel}
+use Rattle.kasa_families.specs.declared.family.Family.TheVariants.{Parallel}
+use Rattle.kasa_families.specs.declared.shape.NodeSite.{NodeSite}
 use Rattle.kasa_families.specs.declared.row.Local.{Local}
 use Rattle.kasa_families.specs.declared.row.Row.{Row}
 use Rattle.kasa_families.specs.declared.row.Row.TheVariants.{Locals, Same, Different}
-use Rattle.kasa_families.specs.Family.{IsFamily, root}
-use Rattle.kasa_families.specs.Row.{IsRow, AreLocals}
-use Rattle.kasa_families.specs.Pattern.{with_local, row_pattern}
+use Rattle.std.specs.List.{AllZip}
+use Rattle.kasa_families.specs.Local.{IsLocal}
+use Rattle.kasa_families.specs.Shape.{at as site_of, AreColumns, ColumnsAgree, pattern_of}
+use Rattle.kasa_families.specs.Family.{IsFamily, shape_of, same, different, root}
+use Rattle.kasa_families.specs.Row.{IsRow}
+use Rattle.kasa_families.specs.Pattern.{row_pattern}
 use Rattle.kasa_families.specs.Table.{Table, AreTables}
 use Rattle.kasa_graph.proofs.ListLemmas.{some_at, slice_get-append_left}
 use Rattle.kasa_families.proofs.TableLemmas.{IsFamily-of_tables}
 use Rattle.kasa_pre.specs.Place.{IsPlace}
-use Rattle.kasa_pre.specs.Compatible.{LocalAgrees, LocalsAgree, CanBeSame, CanBeDifferent, IsCompatible}
+use Rattle.kasa_pre.specs.Compatible.{LocalAgrees, CanBeSame, CanBeDifferent, IsCompatible}
 use Rattle.kasa_pre.specs.Allowed.{IsAllowed}
 use Rattle.kasa_pre.specs.Closed.{Cover}
 use Rattle.kasa_pre.proofs.RootLemmas.{root_extends}
 use Rattle.kasa_pre.proofs.EmbeddingLemmas.{StatesAgree-met, LinksAgree-met, same_partner, cells_at, IsEmbedding-place}
 use Rattle.kasa_graph.proofs.ShapeLemmas.{agent_at-node, node_of_agent}
 use Rattle.kasa_pre.proofs.LeftLemmas.{typed_node}
-use Rattle.kasa_graph.proofs.TestLemmas.{HasNodeSite-with_bond}
-use Rattle.kasa_families.proofs.RowTests.{AllDifferent-ascends, HasNodeSite-with_local}
-use Rattle.kasa_pre.proofs.RowLemmas.{TestsLocal, SameTests, TestsLocal-with_local, SameTests-with_local, TestsLocal-same, TestsLocal-with_locals, HasNodeSite-blank, both_bonds}
+use Rattle.kasa_families.proofs.ColumnLemmas.{nth_of, to_nth, TestsLocal}
+use Rattle.kasa_families.proofs.FamilyShape.{IsShape-of, IsShape-same, IsShape-different}
+use Rattle.kasa_families.proofs.RowPattern.{length_of, root_types, types_of-family_root, TestsBond-root_of, TestsLocals-pattern_of}
 
 -- ---- tests that are met at one site
 
@@ -52,7 +55,7 @@ module _ (g : List Node) (m : List (Option Agent)) (cells : List ℕ) (at : IsEm
 
   module _ (h : List Node) (others : List ℕ) (at_h : IsEmbedding h m others) where
     -- a local state that h tests for at a cell agrees with g there
-    pub LocalAgrees-met : (n k c s : ℕ) (l : Local) → slice_get cells n ≡ Some c → slice_get others k ≡ Some c → TestsLocal h k s l → LocalAgrees g n s l
+    pub LocalAgrees-met : (n k c s : ℕ) (l : Local) → slice_get cells n ≡ Some c → slice_get others k ≡ Some c → TestsLocal h (site_of k s) l → LocalAgrees g n s l
     LocalAgrees-met n k c s l e f tests = record {
       state = StatesAgree-met (state_in m c s) _ _ (at.states n c s e) (rw tests.state at (at_h.states k c s f));
       link = LinksAgree-met g m cells at.types (partner_in m c s) others (link_test g n s) l.link (λ j d is. let b = typed_node g m cells at j d is in (b.0, b.1)) (at.links n c s e) (rw tests.link at (at_h.links k c s f));
@@ -66,17 +69,12 @@ module _ (g : List Node) (m : List (Option Agent)) (cells : List ℕ) (at : IsEm
         let same = same_partner (partner_in m c s) p.0 t q.0 u p.1 q.1 in
         (q.0, p.2 ∙ ap Some same.0, q.2, q.1)
 
-LocalsAgree-each : (g : List Node) (n : ℕ) (sites : List ℕ) (locals : List Local) (sig : List TypeEntry) (a : ℕ) → AreLocals sig a sites locals → ((j s : ℕ) (l : Local) → slice_get sites j ≡ Some s → slice_get locals j ≡ Some l → LocalAgrees g n s l) → LocalsAgree g n sites locals
-LocalsAgree-each g n [] [] sig a ok each = tt
-LocalsAgree-each g n [] (l ∷ locals) sig a ok each = absurd ok
-LocalsAgree-each g n (s ∷ sites) [] sig a ok each = absurd ok
-LocalsAgree-each g n (s ∷ sites) (l ∷ locals) sig a ok each = (each zero s l refl refl, LocalsAgree-each g n sites locals sig a ok.1 (λ j. each (suc j)))
-
 -- how many nodes the root of a family has
 abbrev pub root_size : Family → ℕ
-root_size (View a sites) = 1
-root_size (Across a x p b y q) = 2
-root_size (Parallel a x u b y w) = 1
+root_size family = length (root_types family)
+
+pub length-root : (sig : List TypeEntry) (family : Family) → length (root sig family) ≡ root_size family
+length-root sig family = length_of (root sig family) (root_types family) (types_of-family_root sig family)
 
 -- ---- a row that occurs where g stands is compatible with g
 
@@ -124,51 +122,36 @@ module _ (sig : List TypeEntry) (g : List Node) (m : List (Option Agent)) (over 
         let cell = slice_get-map (λ p. get_or cells p 0) place k ∙ ap (option_map (λ (p : ℕ). get_or cells p 0)) e in
         (get_or cells n 0, slice_get-get_or cells n 0 (within k n e), slice_get-append_left (map (λ p. get_or cells p 0) place) more k (slice_get_within (map (λ p. get_or cells p 0) place) k (get_or cells n 0) cell) ∙ cell)
 
-  IsCompatible-across : (a x p b y q : ℕ) (l k : Local) → HasSite sig a p → HasSite sig b q → (n i : ℕ) → ((j d : ℕ) → slice_get (n ∷ i ∷ []) j ≡ Some d → d < length cells) → (more : List ℕ) → IsEmbedding (row_pattern sig (Across a x p b y q) (Locals (l ∷ k ∷ []))) m (cells_at cells (n ∷ i ∷ []) ++ more) → LocalAgrees g n p l × LocalAgrees g i q k
-  IsCompatible-across a x p b y q l k has has' n i within more at_h =
-      let blanks : List Node = blank_node sig a ∷ blank_node sig b ∷ [] in
-      let bonded : List Node = with_bond blanks 0 x 1 y in
-      let first : List Node = with_local bonded 0 p l in
-      let c = place_cell (n ∷ i ∷ []) within 0 n more refl in
-      let d = place_cell (n ∷ i ∷ []) within 1 i more refl in
-      let apart : SameTests (with_local first 1 q k) first 0 p = SameTests-with_local first 1 q k 0 p (λ e f. cc) in
-      let site : HasNodeSite bonded 0 p = HasNodeSite-with_bond blanks 0 x 1 y 0 p (HasNodeSite-blank sig blanks 0 a p refl has) in
-      let site' : HasNodeSite first 1 q = HasNodeSite-with_local bonded 0 p l 1 q (HasNodeSite-with_bond blanks 0 x 1 y 1 q (HasNodeSite-blank sig blanks 1 b q refl has')) in (
-        LocalAgrees-met g m cells at (with_local first 1 q k) (cells_at cells (n ∷ i ∷ []) ++ more) at_h n 0 c.0 p l c.1 c.2 (TestsLocal-same (with_local first 1 q k) first 0 p l apart (TestsLocal-with_local bonded 0 p l site)),
-        LocalAgrees-met g m cells at (with_local first 1 q k) (cells_at cells (n ∷ i ∷ []) ++ more) at_h i 1 d.0 q k d.1 d.2 (TestsLocal-with_local first 1 q k site'),
+  -- the local states that a pattern tests at the columns agree with g, where its nodes lie on the cells of a place
+  ColumnsAgree-met : (h : List Node) (types place more : List ℕ) → length place ≡ length types → ((n p : ℕ) → slice_get place n ≡ Some p → p < length cells) → IsEmbedding h m (cells_at cells place ++ more) →
+      (columns : List NodeSite) (locals : List Local) → AreColumns sig types columns locals → AllZip (TestsLocal h) columns locals → ColumnsAgree g place columns locals
+  ColumnsAgree-met h types place more count within at_h [] [] ok tests = tt
+  ColumnsAgree-met h types place more count within at_h [] (l ∷ locals) ok tests = absurd ok
+  ColumnsAgree-met h types place more count within at_h (s ∷ columns) [] ok tests = absurd ok
+  ColumnsAgree-met h types place more count within at_h (s ∷ columns) (l ∷ locals) ok tests =
+      let a = nth_of types s.node (λ a. IsLocal sig a s.site l) ok.0 in
+      let inside = slice_get_within types s.node a.0 a.1 in
+      let n = some_at place s.node (omega arith) in
+      let c = place_cell place within s.node n.0 more n.1 in (
+        to_nth place s.node (λ n. LocalAgrees g n s.site l) n.0 n.1 (LocalAgrees-met g m cells at h (cells_at cells place ++ more) at_h n.0 s.node c.0 s.site l c.1 c.2 tests.0),
+        ColumnsAgree-met h types place more count within at_h columns locals ok.1 tests.1,
       )
 
   IsCompatible-occurs : (family : Family) (row : Row) → IsFamily sig family → IsRow sig family row → (place : List ℕ) → length place ≡ root_size family → ((n p : ℕ) → slice_get place n ≡ Some p → p < length cells) → (more : List ℕ) → IsEmbedding (row_pattern sig family row) m (cells_at cells place ++ more) → IsCompatible g family place row
-  IsCompatible-occurs (View a sites) (Locals locals) valid ok (n ∷ []) count within more at_h =
-      let c = place_cell (n ∷ []) within 0 n more refl in
-      LocalsAgree-each g n sites locals sig a ok (λ j s l e f.
-      LocalAgrees-met g m cells at _ (cells_at cells (n ∷ []) ++ more) at_h n 0 c.0 s l c.1 c.2
-      (TestsLocal-with_locals (blank_node sig a ∷ []) 0 sites locals j s l (AllDifferent-ascends sites valid.2) (λ k v is. HasNodeSite-blank sig (blank_node sig a ∷ []) 0 a v refl (valid.1 k v is)) e f))
-  IsCompatible-occurs (View a sites) (Locals locals) valid ok [] count within more at_h = absurd (omega arith)
-  IsCompatible-occurs (View a sites) (Locals locals) valid ok (n ∷ i ∷ place) count within more at_h = absurd (omega arith)
-  IsCompatible-occurs (Across a x p b y q) (Locals (l ∷ k ∷ [])) valid ok (n ∷ i ∷ []) count within more at_h = IsCompatible-across a x p b y q l k valid.1 valid.3 n i within more at_h
-  IsCompatible-occurs (Across a x p b y q) (Locals (l ∷ k ∷ [])) valid ok [] count within more at_h = absurd (omega arith)
-  IsCompatible-occurs (Across a x p b y q) (Locals (l ∷ k ∷ [])) valid ok (n ∷ []) count within more at_h = absurd (omega arith)
-  IsCompatible-occurs (Across a x p b y q) (Locals (l ∷ k ∷ [])) valid ok (n ∷ i ∷ j ∷ place) count within more at_h = absurd (omega arith)
   IsCompatible-occurs (Parallel a x u b y w) Same valid ok (n ∷ []) count within more at_h =
       let c = place_cell (n ∷ []) within 0 n more refl in
-      let bonds = both_bonds sig a x u b y w 1 [] valid.0 valid.1 valid.5 (omega arith) in
-      CanBeSame-met n x u y w _ (cells_at cells (n ∷ []) ++ more) at_h c.0 c.1 c.2 bonds.0 bonds.1
-  IsCompatible-occurs (Parallel a x u b y w) Same valid ok [] count within more at_h = absurd (omega arith)
-  IsCompatible-occurs (Parallel a x u b y w) Same valid ok (n ∷ i ∷ place) count within more at_h = absurd (omega arith)
+      let bonds = TestsBond-root_of sig (same a x u b y w) (IsShape-same sig a x u b y w valid) in
+      CanBeSame-met n x u y w _ (cells_at cells (n ∷ []) ++ more) at_h c.0 c.1 c.2 bonds.0.first bonds.1.0.first
   IsCompatible-occurs (Parallel a x u b y w) Different valid ok (n ∷ []) count within more at_h =
       let c = place_cell (n ∷ []) within 0 n more refl in
-      let bonds = both_bonds sig a x u b y w 2 (blank_node sig b ∷ []) valid.0 valid.1 valid.5 (omega arith) in
-      CanBeDifferent-met n x u y w _ (cells_at cells (n ∷ []) ++ more) at_h c.0 c.1 c.2 bonds.0 bonds.1
-  IsCompatible-occurs (Parallel a x u b y w) Different valid ok [] count within more at_h = absurd (omega arith)
-  IsCompatible-occurs (Parallel a x u b y w) Different valid ok (n ∷ i ∷ place) count within more at_h = absurd (omega arith)
+      let bonds = TestsBond-root_of sig (different a x u b y w) (IsShape-different sig a x u b y w valid) in
+      CanBeDifferent-met n x u y w _ (cells_at cells (n ∷ []) ++ more) at_h c.0 c.1 c.2 bonds.0.first bonds.1.0.first
+  IsCompatible-occurs (Parallel a x u b y w) (Locals locals) valid ok place count within more at_h = absurd ok
+  IsCompatible-occurs (Parallel a x u b y w) row valid ok [] count within more at_h = absurd (omega arith)
+  IsCompatible-occurs (Parallel a x u b y w) row valid ok (n ∷ i ∷ place) count within more at_h = absurd (omega arith)
+  IsCompatible-occurs family (Locals locals) valid ok place count within more at_h =
+      ColumnsAgree-met (pattern_of sig (shape_of family) locals) (shape_of family).types place more count within at_h (shape_of family).columns locals ok (TestsLocals-pattern_of sig (shape_of family) locals (IsShape-of sig family valid) ok)
   IsCompatible-occurs family row valid ok place count within more at_h = absurd ok
-
-pub length-root : (sig : List TypeEntry) (family : Family) → length (root sig family) ≡ root_size family
-unfolding with_link
-length-root sig (View a sites) = refl
-length-root sig (Across a x p b y q) = refl
-length-root sig (Parallel a x u b y w) = refl
 
 -- tables that cover a mixture allow each pattern that stands there
 pub IsAllowed-cover : (sig : List TypeEntry) (tables : List Table) (m : List (Option Agent)) (g : List Node) (cells : List ℕ) → AreTables sig tables → IsMixtureOver sig m → Cover sig tables m → IsEmbedding g m cells → IsAllowed sig tables g

@@ -14,7 +14,7 @@ use Rattle.kasa_graph.specs.Mixture.{type_in}
 use Rattle.kasa_graph.specs.Embedding.{IsEmbedding, MeetsState, MeetsLink}
 use Rattle.kasa_families.specs.declared.row.LocalLink.{LocalLink}
 use Rattle.kasa_families.specs.declared.row.LocalLink.TheVariants as local
-use Rattle.kasa_families.specs.Pattern.{local_link_test}
+use Rattle.kasa_families.specs.Local.{local_link_test}
 use Rattle.kasa_pre.specs.Place.{ImpliesAt, IsPlace}
 use Rattle.kasa_pre.proofs.Implied.{To-implied}
 use Rattle.kasa_graph.proofs.TestLemmas.{agent_at-same}

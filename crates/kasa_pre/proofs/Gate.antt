@@ -1,5 +1,5 @@
 -- A model of one gate with two sites of two states: its first row is initial, and a rule yields the next one.
-use Rattle.std.proofs.Common.{◌≡◌, ◌≢◌, ℕ, zero, suc, List, [], ◌∷◌, refl, length, ◌<◌, lit<}
+use Rattle.std.proofs.Common.{◌≡◌, ◌≢◌, ℕ, zero, suc, List, [], ◌∷◌, refl, length, ◌<◌, lit<, subst, sym}
 use Rattle.std.specs.Prelude.{Option, Some, None, slice_get, map}
 use Rattle.kasa_graph.specs.declared.pattern.Node.{Node}
 use Rattle.kasa_graph.specs.declared.pattern.SiteTests.{SiteTests}
@@ -124,7 +124,7 @@ allowed : IsAllowed sig tables before
 allowed family has place at =
     let same = the_family family has in
     let here = root_place place (rw same at at) in
-    rw (same, here) compatible
+    subst (λ (family : Family). HasCompatible tables before family place) (sym same) (subst (λ (place : List ℕ). HasCompatible tables before view place) (sym here) compatible)
 
 no_partner : (n s b y : ℕ) → link_test before n s ≢ Partner b y
 unfolding link_test site_at

@@ -1,6 +1,6 @@
 -- The root of a family has a place in each row's pattern, places compose, and where a row's pattern has a place, only this row
 -- is compatible.
-use Rattle.std.proofs.Common.{◌≡◌, ℕ, zero, suc, ◌+◌, ◌<◌, inl, inr, List, [], ◌∷◌, refl, sym, ap, ◌∙◌, length, map, arith, get_or}
+use Rattle.std.proofs.Common.{◌≡◌, ℕ, zero, suc, ◌+◌, ◌<◌, List, [], ◌∷◌, refl, sym, ap, ◌∙◌, length, map, arith, get_or}
 use Rattle.std.specs.Prelude.{Option, Some, None, slice_get, option_map}
 use Rattle.std.proofs.lemmas.List.{length-map}
 use Rattle.std.proofs.lemmas.Option.{slice_get-map, slice_get_within, slice_get-get_or}
@@ -10,39 +10,20 @@ use Rattle.kasa_graph.specs.declared.pattern.LinkTest.TheVariants.{Any, Free, Bo
 use Rattle.kasa_graph.specs.declared.pattern.Node.{Node}
 use Rattle.kasa_graph.specs.Signature.{TypeEntry}
 use Rattle.kasa_graph.specs.Lists.{AllDifferent}
-use Rattle.kasa_graph.specs.Signature.{HasSite}
-use Rattle.kasa_graph.specs.Pattern.{agent_at, state_test, link_test, types_of, blank_node, HasNodeSite, with_link, with_bond, LinkImplies}
-use Rattle.kasa_graph.proofs.PatternLemmas.{link_test-with_link, link_test-with_bond, HasNodeSite-with_link}
+use Rattle.kasa_graph.specs.Pattern.{agent_at, site_at, state_test, link_test, blank_node, with_link, LinkImplies}
 use Rattle.kasa_families.specs.declared.family.Family.{Family}
-use Rattle.kasa_families.specs.declared.family.Family.TheVariants.{View, Across, Parallel}
-use Rattle.kasa_families.specs.declared.row.Local.{Local}
+use Rattle.kasa_families.specs.declared.family.Family.TheVariants.{Parallel}
 use Rattle.kasa_families.specs.declared.row.Row.{Row}
 use Rattle.kasa_families.specs.declared.row.Row.TheVariants.{Locals, Same, Different}
-use Rattle.kasa_families.specs.Family.{IsFamily, root}
+use Rattle.kasa_families.specs.Family.{IsFamily, shape_of, root}
 use Rattle.kasa_families.specs.Row.{IsRow}
-use Rattle.kasa_families.specs.Pattern.{with_local, row_pattern}
+use Rattle.kasa_families.specs.Pattern.{row_pattern}
 use Rattle.kasa_pre.specs.Place.{ImpliesAt, IsPlace}
 use Rattle.kasa_pre.proofs.Implied.{StateImplies-trans}
 use Rattle.kasa_pre.proofs.CoverLemmas.{root_size, length-root}
-use Rattle.kasa_graph.proofs.TestLemmas.{agent_at-types, types_of-blank, state_test-blank, link_test-blank, state_test-with_link, link_test-with_bond_first, link_test-with_bond_second}
-use Rattle.kasa_families.proofs.RowPattern.{types_of-view, types_of-across_root, types_of-across, types_of-parallel_root, types_of-same, types_of-different}
-use Rattle.kasa_pre.proofs.RowLemmas.{SameTests-with_local, both_bonds, HasNodeSite-blank}
-
--- ---- the types of a row's pattern
-
--- the types of the nodes of a row's pattern
-abbrev pub row_types : Family → Row → List ℕ
-row_types (View a sites) row = a ∷ []
-row_types (Across a x p b y q) row = a ∷ b ∷ []
-row_types (Parallel a x u b y w) Different = a ∷ b ∷ b ∷ []
-row_types (Parallel a x u b y w) row = a ∷ b ∷ []
-
-pub types_of-row_pattern : (sig : List TypeEntry) (family : Family) (row : Row) → IsRow sig family row → types_of (row_pattern sig family row) ≡ row_types family row
-types_of-row_pattern sig (View a sites) (Locals locals) ok = types_of-view sig a sites locals
-types_of-row_pattern sig (Across a x p b y q) (Locals (l ∷ k ∷ [])) ok = types_of-across sig a x p b y q l k
-types_of-row_pattern sig (Parallel a x u b y w) Same ok = types_of-same sig a x u b y w
-types_of-row_pattern sig (Parallel a x u b y w) Different ok = types_of-different sig a x u b y w
-types_of-row_pattern sig family row ok = absurd ok
+use Rattle.kasa_graph.proofs.TestLemmas.{agent_at-types, state_test-blank, state_test-with_link}
+use Rattle.kasa_families.proofs.RowPattern.{root_types, row_types, types_of-family_root, types_of-row_pattern, state_test-root_of, row_implies_root}
+use Rattle.kasa_families.proofs.OverLemmas.{IsPatternOver-root}
 
 -- ---- places compose
 
@@ -120,84 +101,54 @@ places-from k n i p e =
 pub places-different : (k n : ℕ) → AllDifferent (places k n)
 places-different k n i j x e f = let p = (places-from k n i x e).0 in let q = (places-from k n j x f).0 in omega arith
 
+-- through the first places nodes come to where they were
+pub through-first : (qs : List ℕ) (count : ℕ) → length qs ≡ count → (k n : ℕ) → slice_get (through qs (places 0 count)) k ≡ Some n → slice_get qs k ≡ Some n
+through-first qs count long k n e =
+    let p = through-from (places 0 count) qs k n (λ i p e. let h = places-from 0 count i p e in let at = h.0 in let within = h.1 in omega arith) e in
+    let same : p.0 ≡ k = let h = (places-from 0 count k p.0 p.1).0 in omega arith in
+    rw same at p.2
+
 -- ---- the root's place in a row's pattern: its first nodes
 
-abbrev pub root_types : Family → List ℕ
-root_types (View a sites) = a ∷ []
-root_types (Across a x p b y q) = a ∷ b ∷ []
-root_types (Parallel a x u b y w) = a ∷ []
-
-pub types_of-root : (sig : List TypeEntry) (family : Family) → types_of (root sig family) ≡ root_types family
-types_of-root sig (View a sites) = types_of-blank sig (a ∷ [])
-types_of-root sig (Across a x p b y q) = types_of-across_root sig a x p b y q
-types_of-root sig (Parallel a x u b y w) = types_of-parallel_root sig a x u b y w
-
 first_types : (family : Family) (row : Row) (n a : ℕ) → slice_get (root_types family) n ≡ Some a → slice_get (row_types family row) n ≡ Some a
-first_types (View b sites) row n a e = e
-first_types (Across b x p c y q) row n a e = e
 first_types (Parallel b x u c y w) (Locals locals) zero a e = e
 first_types (Parallel b x u c y w) Same zero a e = e
 first_types (Parallel b x u c y w) Different zero a e = e
 first_types (Parallel b x u c y w) row (suc n) a e = absurd cc
+first_types family row n a e = e
 
 pub state_test-root : (sig : List TypeEntry) (family : Family) (n s : ℕ) → state_test (root sig family) n s ≡ state.Any
-state_test-root sig (View a sites) n s = state_test-blank sig (a ∷ []) n s
-state_test-root sig (Across a x p b y q) n s =
-    state_test-with_link (with_link (blank_node sig a ∷ blank_node sig b ∷ []) 0 x (To 1 y)) 1 y (To 0 x) n s
-    ∙ state_test-with_link (blank_node sig a ∷ blank_node sig b ∷ []) 0 x (To 1 y) n s
-    ∙ state_test-blank sig (a ∷ b ∷ []) n s
 state_test-root sig (Parallel a x u b y w) n s =
     state_test-with_link (with_link (blank_node sig a ∷ []) 0 x (Partner b y)) 0 u (Partner b w) n s
     ∙ state_test-with_link (blank_node sig a ∷ []) 0 x (Partner b y) n s
     ∙ state_test-blank sig (a ∷ []) n s
+state_test-root sig family n s = state_test-root_of sig (shape_of family) n s
 
--- both ends of the bond of a row of an across family
-across_bonds : (sig : List TypeEntry) (a x p b y q : ℕ) (l k : Local) → IsFamily sig (Across a x p b y q) → (link_test (row_pattern sig (Across a x p b y q) (Locals (l ∷ k ∷ []))) 0 x ≡ To 1 y) × (link_test (row_pattern sig (Across a x p b y q) (Locals (l ∷ k ∷ []))) 1 y ≡ To 0 x)
-across_bonds sig a x p b y q l k valid =
-    let blanks : List Node = blank_node sig a ∷ blank_node sig b ∷ [] in
-    let bonded : List Node = with_bond blanks 0 x 1 y in (
-      (SameTests-with_local (with_local bonded 0 p l) 1 q k 0 x (λ e f. cc)).link ∙ (SameTests-with_local bonded 0 p l 0 x (λ e f. valid.4 f)).link ∙ link_test-with_bond_first blanks 0 x 1 y (HasNodeSite-blank sig blanks 0 a x refl valid.0) (λ e f. cc),
-      (SameTests-with_local (with_local bonded 0 p l) 1 q k 1 y (λ e f. valid.5 f)).link ∙ (SameTests-with_local bonded 0 p l 1 y (λ e f. cc)).link ∙ link_test-with_bond_second blanks 0 x 1 y (HasNodeSite-blank sig blanks 1 b y refl valid.2),
-    )
+-- a test that isn't Any is one of a node that there is
+To-within : (g : List Node) (n s m t : ℕ) → link_test g n s ≡ To m t → n < length g
+unfolding link_test site_at
+To-within [] n s m t e = absurd cc
+To-within (node ∷ g) zero s m t e = omega arith
+To-within (node ∷ g) (suc n) s m t e = let h = To-within g n s m t e in omega arith
 
--- a partner of the root is named in the row's pattern, where its second bond leads to the node j
-parallel_link : (sig : List TypeEntry) (v : List Node) (a x u b y w j n s : ℕ) (place : ℕ → Option ℕ) → HasSite sig a x → HasSite sig a u → link_test v 0 x ≡ To 1 y → link_test v 0 u ≡ To j w → agent_at v 1 ≡ Some b → agent_at v j ≡ Some b → n ≡ 0 → ImpliesAt v place (link_test v n s) (link_test (root sig (Parallel a x u b y w)) n s)
-parallel_link sig v a x u b y w j n s place has has' first second typed typed' is =
-    let blanks : List Node = blank_node sig a ∷ [] in
-    let once : List Node = with_link blanks 0 x (Partner b y) in
-    elim (link_test-with_link once 0 u n s (Partner b w) (HasNodeSite-with_link blanks 0 x 0 u (Partner b y) (HasNodeSite-blank sig blanks 0 a u refl has'))) [
-      | inl at ↦ rw (at.2, is, ← at.1, second) (typed', refl)
-      | inr out ↦ elim (link_test-with_link blanks 0 x n s (Partner b y) (HasNodeSite-blank sig blanks 0 a x refl has)) [
-        | inl at ↦ rw (out.1, at.2, is, ← at.1, first) (typed, refl)
-        | inr out' ↦ rw (out.1, out'.1, link_test-blank sig (a ∷ []) n s) tt
-      ]
-    ]
+-- what implies a test implies it where the first nodes have their own numbers as places
+ImpliesAt-first : (v : List Node) (count : ℕ) (a b : LinkTest) → ((m t : ℕ) → b ≡ To m t → m < count) → LinkImplies v a b → ImpliesAt v (slice_get (places 0 count)) a b
+ImpliesAt-first v count a Any within h = tt
+ImpliesAt-first v count a Free within h = h
+ImpliesAt-first v count a Bound within h = h
+ImpliesAt-first v count a (Partner b y) within h = h
+ImpliesAt-first v count (To m t) (To k u) within h =
+    (k, places-at 0 count k (within k u refl) ∙ ap Some (omega arith), let node = h.0 in let site = h.1 in cc)
+ImpliesAt-first v count Any (To k u) within h = absurd h
+ImpliesAt-first v count Free (To k u) within h = absurd h
+ImpliesAt-first v count Bound (To k u) within h = absurd h
+ImpliesAt-first v count (Partner b y) (To k u) within h = absurd h
 
-root_links : (sig : List TypeEntry) (family : Family) (row : Row) → IsFamily sig family → IsRow sig family row → (n s : ℕ) → n < root_size family → ImpliesAt (row_pattern sig family row) (slice_get (places 0 (root_size family))) (link_test (row_pattern sig family row) n s) (link_test (root sig family) n s)
-root_links sig (View a sites) (Locals locals) valid ok n s within = rw (link_test-blank sig (a ∷ []) n s) tt
-root_links sig (Across a x p b y q) (Locals (l ∷ k ∷ [])) valid ok n s within =
-    let blanks : List Node = blank_node sig a ∷ blank_node sig b ∷ [] in
-    let ends = across_bonds sig a x p b y q l k valid in
-    let has : HasNodeSite blanks 0 x = HasNodeSite-blank sig blanks 0 a x refl valid.0 in
-    let has' : HasNodeSite blanks 1 y = HasNodeSite-blank sig blanks 1 b y refl valid.2 in
-    elim (link_test-with_bond blanks 0 x 1 y has has' (λ e f. cc) n s) [
-      | inl at ↦ rw (← at.0, ← at.1, ends.0, link_test-with_bond_first blanks 0 x 1 y has (λ e f. cc)) (1, refl, refl)
-      | inr rest ↦ elim rest [
-        | inl at ↦ rw (← at.0, ← at.1, ends.1, link_test-with_bond_second blanks 0 x 1 y has') (0, refl, refl)
-        | inr same ↦ rw (same, link_test-blank sig (a ∷ b ∷ []) n s) tt
-      ]
-    ]
-root_links sig (Parallel a x u b y w) Same valid ok n s within =
-    let v : List Node = row_pattern sig (Parallel a x u b y w) Same in
-    let bonds = both_bonds sig a x u b y w 1 [] valid.0 valid.1 valid.5 (omega arith) in
-    let types = types_of-row_pattern sig (Parallel a x u b y w) Same tt in
-    parallel_link sig v a x u b y w 1 n s _ valid.0 valid.1 bonds.0 bonds.1 (agent_at-types v 1 ∙ ap (λ (ts : List ℕ). slice_get ts 1) types) (agent_at-types v 1 ∙ ap (λ (ts : List ℕ). slice_get ts 1) types) (omega arith)
-root_links sig (Parallel a x u b y w) Different valid ok n s within =
-    let v : List Node = row_pattern sig (Parallel a x u b y w) Different in
-    let bonds = both_bonds sig a x u b y w 2 (blank_node sig b ∷ []) valid.0 valid.1 valid.5 (omega arith) in
-    let types = types_of-row_pattern sig (Parallel a x u b y w) Different tt in
-    parallel_link sig v a x u b y w 2 n s _ valid.0 valid.1 bonds.0 bonds.1 (agent_at-types v 1 ∙ ap (λ (ts : List ℕ). slice_get ts 1) types) (agent_at-types v 2 ∙ ap (λ (ts : List ℕ). slice_get ts 2) types) (omega arith)
-root_links sig family row valid ok n s within = absurd ok
+root_links : (sig : List TypeEntry) (family : Family) (row : Row) → IsFamily sig family → IsRow sig family row → (n s : ℕ) → ImpliesAt (row_pattern sig family row) (slice_get (places 0 (root_size family))) (link_test (row_pattern sig family row) n s) (link_test (root sig family) n s)
+root_links sig family row valid ok n s =
+    ImpliesAt-first (row_pattern sig family row) (root_size family) _ _
+    (λ m t e. rw length-root at (To-within (root sig family) m t n s ((IsPatternOver-root sig family valid).linked.both_ways n s m t e)))
+    (row_implies_root sig family row valid ok n s).1
 
 -- the first nodes of a row's pattern are a place of the root
 pub IsPlace-root : (sig : List TypeEntry) (family : Family) (row : Row) → IsFamily sig family → IsRow sig family row → IsPlace (root sig family) (row_pattern sig family row) (places 0 (root_size family))
@@ -207,11 +158,11 @@ IsPlace-root sig family row valid ok = record {
   types = λ n p a e is.
       let at = places-from 0 (root_size family) n p e in
       let same : p ≡ n = let h = at.0 in omega arith in
-      let typed : slice_get (root_types family) n ≡ Some a = sym (agent_at-types (root sig family) n ∙ ap (λ (ts : List ℕ). slice_get ts n) (types_of-root sig family)) ∙ is in
+      let typed : slice_get (root_types family) n ≡ Some a = sym (agent_at-types (root sig family) n ∙ ap (λ (ts : List ℕ). slice_get ts n) (types_of-family_root sig family)) ∙ is in
       rw same (agent_at-types (row_pattern sig family row) n ∙ ap (λ (ts : List ℕ). slice_get ts n) (types_of-row_pattern sig family row ok) ∙ first_types family row n a typed);
   states = λ n p s e. rw (state_test-root sig family n s) tt;
   links = λ n p s e.
       let at = places-from 0 (root_size family) n p e in
       let same : p ≡ n = let h = at.0 in omega arith in
-      rw same (root_links sig family row valid ok n s at.1);
+      rw same (root_links sig family row valid ok n s);
 }

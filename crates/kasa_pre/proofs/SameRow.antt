@@ -9,24 +9,28 @@ use Rattle.kasa_graph.specs.declared.pattern.LinkTest.TheVariants.{Free, Partner
 use Rattle.kasa_graph.specs.declared.pattern.Node.{Node}
 use Rattle.kasa_graph.specs.Signature.{TypeEntry}
 use Rattle.kasa_graph.specs.Signature.{state_counts}
-use Rattle.kasa_graph.specs.Pattern.{state_test, link_test, blank_node, HasNodeSite, with_bond, StateImplies, StatesAgree, LinksAgree}
+use Rattle.kasa_graph.specs.Pattern.{state_test, link_test, StateImplies, StatesAgree, LinksAgree}
 use Rattle.kasa_families.specs.declared.family.Family.{Family}
-use Rattle.kasa_families.specs.declared.family.Family.TheVariants.{View, Across, Parallel}
+use Rattle.kasa_families.specs.declared.family.Family.TheVariants.{Parallel}
+use Rattle.kasa_families.specs.declared.shape.NodeSite.{NodeSite}
+use Rattle.std.specs.List.{AllZip}
 use Rattle.kasa_families.specs.declared.row.LocalLink.{LocalLink}
 use Rattle.kasa_families.specs.declared.row.LocalLink.TheVariants as local
 use Rattle.kasa_families.specs.declared.row.Local.{Local}
 use Rattle.kasa_families.specs.declared.row.Row.{Row}
 use Rattle.kasa_families.specs.declared.row.Row.TheVariants.{Locals, Same, Different}
-use Rattle.kasa_families.specs.Family.{IsFamily}
-use Rattle.kasa_families.specs.Row.{IsRow, IsLocalState, IsLocal, AreLocals}
-use Rattle.kasa_families.specs.Pattern.{local_state_test, local_link_test, with_local, row_pattern}
+use Rattle.kasa_families.specs.Local.{IsLocalState, IsLocal, local_state_test, local_link_test}
+use Rattle.kasa_families.specs.Shape.{AreColumns, ColumnsAgree}
+use Rattle.kasa_families.specs.Family.{IsFamily, shape_of, same, different}
+use Rattle.kasa_families.specs.Row.{IsRow}
+use Rattle.kasa_families.specs.Pattern.{row_pattern}
 use Rattle.kasa_pre.specs.Place.{ImpliesAt, IsPlace}
-use Rattle.kasa_pre.specs.Compatible.{LocalAgrees, LocalsAgree, IsCompatible}
-use Rattle.kasa_graph.proofs.TestLemmas.{HasNodeSite-with_bond}
-use Rattle.kasa_families.proofs.RowTests.{AllDifferent-ascends, HasNodeSite-with_local}
-use Rattle.kasa_pre.proofs.RowLemmas.{TestsLocal, SameTests, TestsLocal-with_local, SameTests-with_local, TestsLocal-same, TestsLocal-with_locals, HasNodeSite-blank, both_bonds, length-row_pattern}
+use Rattle.kasa_pre.specs.Compatible.{LocalAgrees, IsCompatible}
+use Rattle.kasa_families.proofs.ColumnLemmas.{nth_of, TestsLocal, types_of-pattern}
+use Rattle.kasa_families.proofs.FamilyShape.{IsShape-of, IsShape-same, IsShape-different}
+use Rattle.kasa_families.proofs.RowPattern.{length_of, row_types, types_of-row_pattern, TestsBond-root_of, TestsLocals-pattern_of}
 use Rattle.kasa_pre.proofs.CoverLemmas.{root_size}
-use Rattle.kasa_pre.proofs.RowPlace.{through, places}
+use Rattle.kasa_pre.proofs.RowPlace.{through, places, through-first}
 
 -- ---- one local state at a site
 
@@ -66,21 +70,30 @@ same_local sig g place a n s l k p q implied agree =
     let link = same_link g place (link_test g n s) l.link k.link implied.link agree.link in
     sym (ap (λ (x : Option ℕ). let r : Local = record { state = x; link = l.link } in r) state ∙ ap (λ (x : LocalLink). let r : Local = record { state = k.state; link = x } in r) link)
 
-same_locals : (sig : List TypeEntry) (g : List Node) (place : ℕ → Option ℕ) (a n : ℕ) (sites : List ℕ) (ls ks : List Local) → AreLocals sig a sites ls → AreLocals sig a sites ks → ((j s : ℕ) (l : Local) → slice_get sites j ≡ Some s → slice_get ls j ≡ Some l → ImpliesLocal g place n s l) → LocalsAgree g n sites ks → ks ≡ ls
-same_locals sig g place a n [] [] [] p q implied agree = refl
-same_locals sig g place a n [] [] (k ∷ ks) p q implied agree = absurd q
-same_locals sig g place a n [] (l ∷ ls) ks p q implied agree = absurd p
-same_locals sig g place a n (s ∷ sites) [] ks p q implied agree = absurd p
-same_locals sig g place a n (s ∷ sites) (l ∷ ls) [] p q implied agree = absurd q
-same_locals sig g place a n (s ∷ sites) (l ∷ ls) (k ∷ ks) p q implied agree =
-    let first = same_local sig g place a n s l k p.0 q.0 (implied zero s l refl refl) agree.0 in
-    let rest = same_locals sig g place a n sites ls ks p.1 q.1 (λ j. implied (suc j)) agree.1 in
+same_columns : (sig : List TypeEntry) (g : List Node) (qs types place : List ℕ) → ((k n : ℕ) → slice_get place k ≡ Some n → slice_get qs k ≡ Some n) →
+    (columns : List NodeSite) (ls ks : List Local) → AreColumns sig types columns ls → AreColumns sig types columns ks → AllZip (λ s l. (n : ℕ) → slice_get qs s.node ≡ Some n → ImpliesLocal g (slice_get qs) n s.site l) columns ls → ColumnsAgree g place columns ks → ks ≡ ls
+same_columns sig g qs types place on [] [] [] p q implied agree = refl
+same_columns sig g qs types place on [] [] (k ∷ ks) p q implied agree = absurd q
+same_columns sig g qs types place on [] (l ∷ ls) ks p q implied agree = absurd p
+same_columns sig g qs types place on (s ∷ columns) [] ks p q implied agree = absurd p
+same_columns sig g qs types place on (s ∷ columns) (l ∷ ls) [] p q implied agree = absurd q
+same_columns sig g qs types place on (s ∷ columns) (l ∷ ls) (k ∷ ks) p q implied agree =
+    let a = nth_of types s.node (λ a. IsLocal sig a s.site l) p.0 in
+    let b = nth_of types s.node (λ a. IsLocal sig a s.site k) q.0 in
+    let type : b.0 ≡ a.0 = let e = a.1 in let f = b.1 in cc in
+    let n = nth_of place s.node (λ n. LocalAgrees g n s.site k) agree.0 in
+    let first = same_local sig g (slice_get qs) a.0 n.0 s.site l k a.2 (rw type at b.2) (implied.0 n.0 (on s.node n.0 n.1)) n.2 in
+    let rest = same_columns sig g qs types place on columns ls ks p.1 q.1 implied.1 agree.1 in
     rw (first, rest) refl
 
 -- ---- a place of a pattern that tests for a local state implies it
 
-place_local : (v g : List Node) (qs : List ℕ) (at : IsPlace v g qs) (k n s : ℕ) (l : Local) → slice_get qs k ≡ Some n → TestsLocal v k s l → ImpliesLocal g (slice_get qs) n s l
-place_local v g qs at k n s l e tests = record { state = rw tests.state at (at.states k n s e); link = rw tests.link at (at.links k n s e) }
+place_locals : (v g : List Node) (qs : List ℕ) → IsPlace v g qs → (columns : List NodeSite) (ls : List Local) → AllZip (TestsLocal v) columns ls → AllZip (λ s l. (n : ℕ) → slice_get qs s.node ≡ Some n → ImpliesLocal g (slice_get qs) n s.site l) columns ls
+place_locals v g qs at [] [] tests = tt
+place_locals v g qs at [] (l ∷ ls) tests = tests
+place_locals v g qs at (s ∷ columns) [] tests = tests
+place_locals v g qs at (s ∷ columns) (l ∷ ls) tests =
+    (λ n e. record { state = rw tests.0.state at (at.states s.node n s.site e); link = rw tests.0.link at (at.links s.node n s.site e) }, place_locals v g qs at columns ls tests.1)
 
 place_bond : (v g : List Node) (qs : List ℕ) (at : IsPlace v g qs) (k n s j t : ℕ) → slice_get qs k ≡ Some n → link_test v k s ≡ To j t → (p : ℕ) × (slice_get qs j ≡ Some p) × (link_test g n s ≡ To p t)
 place_bond v g qs at k n s j t e is = rw is at (at.links k n s e)
@@ -88,38 +101,18 @@ place_bond v g qs at k n s j t e is = rw is at (at.links k n s e)
 -- ---- rows
 
 module _ (sig : List TypeEntry) (g : List Node) (qs : List ℕ) where
-  same_view : (a : ℕ) (sites : List ℕ) (ls : List Local) (row : Row) (n : ℕ) → IsFamily sig (View a sites) → AreLocals sig a sites ls → IsRow sig (View a sites) row → IsPlace (row_pattern sig (View a sites) (Locals ls)) g qs → slice_get qs 0 ≡ Some n → IsCompatible g (View a sites) (n ∷ []) row → row ≡ Locals ls
-  same_view a sites ls (Locals ks) n valid ok ok' at here c =
-      ap Locals (same_locals sig g (slice_get qs) a n sites ls ks ok ok' (λ j s l e f.
-      place_local _ g qs at 0 n s l here (TestsLocal-with_locals (blank_node sig a ∷ []) 0 sites ls j s l (AllDifferent-ascends sites valid.2) (λ k v is. HasNodeSite-blank sig (blank_node sig a ∷ []) 0 a v refl (valid.1 k v is)) e f)) c)
-  same_view a sites ls Same n valid ok ok' at here c = absurd ok'
-  same_view a sites ls Different n valid ok ok' at here c = absurd ok'
-
-  same_across : (a x p b y q : ℕ) (l k : Local) (row : Row) (n i : ℕ) → IsFamily sig (Across a x p b y q) → IsRow sig (Across a x p b y q) (Locals (l ∷ k ∷ [])) → IsRow sig (Across a x p b y q) row → IsPlace (row_pattern sig (Across a x p b y q) (Locals (l ∷ k ∷ []))) g qs → slice_get qs 0 ≡ Some n → slice_get qs 1 ≡ Some i → IsCompatible g (Across a x p b y q) (n ∷ i ∷ []) row → row ≡ Locals (l ∷ k ∷ [])
-  same_across a x p b y q l k (Locals (l' ∷ k' ∷ [])) n i valid ok ok' at here there c =
-      let blanks : List Node = blank_node sig a ∷ blank_node sig b ∷ [] in
-      let bonded : List Node = with_bond blanks 0 x 1 y in
-      let first : List Node = with_local bonded 0 p l in
-      let apart : SameTests (with_local first 1 q k) first 0 p = SameTests-with_local first 1 q k 0 p (λ e f. cc) in
-      let site : HasNodeSite bonded 0 p = HasNodeSite-with_bond blanks 0 x 1 y 0 p (HasNodeSite-blank sig blanks 0 a p refl valid.1) in
-      let site' : HasNodeSite first 1 q = HasNodeSite-with_local bonded 0 p l 1 q (HasNodeSite-with_bond blanks 0 x 1 y 1 q (HasNodeSite-blank sig blanks 1 b q refl valid.3)) in
-      let one : l' ≡ l = same_local sig g (slice_get qs) a n p l l' ok.0 ok'.0 (place_local _ g qs at 0 n p l here (TestsLocal-same (with_local first 1 q k) first 0 p l apart (TestsLocal-with_local bonded 0 p l site))) c.0 in
-      let two : k' ≡ k = same_local sig g (slice_get qs) b i q k k' ok.1 ok'.1 (place_local _ g qs at 1 i q k there (TestsLocal-with_local first 1 q k site')) c.1 in
-      rw (one, two) refl
-  same_across a x p b y q l k row n i valid ok ok' at here there c = absurd ok'
-
   same_parallel : (a x u b y w : ℕ) (row row' : Row) (n : ℕ) → IsFamily sig (Parallel a x u b y w) → IsRow sig (Parallel a x u b y w) row → IsRow sig (Parallel a x u b y w) row' → IsPlace (row_pattern sig (Parallel a x u b y w) row) g qs → slice_get qs 0 ≡ Some n → IsCompatible g (Parallel a x u b y w) (n ∷ []) row' → row' ≡ row
   same_parallel a x u b y w Same Same n valid ok ok' at here c = refl
   same_parallel a x u b y w Different Different n valid ok ok' at here c = refl
   same_parallel a x u b y w Same Different n valid ok ok' at here c =
-      let bonds = both_bonds sig a x u b y w 1 [] valid.0 valid.1 valid.5 (omega arith) in
-      let p = place_bond _ g qs at 0 n x 1 y here bonds.0 in
-      let r = place_bond _ g qs at 0 n u 1 w here bonds.1 in
+      let bonds = TestsBond-root_of sig (same a x u b y w) (IsShape-same sig a x u b y w valid) in
+      let p = place_bond _ g qs at 0 n x 1 y here bonds.0.first in
+      let r = place_bond _ g qs at 0 n u 1 w here bonds.1.0.first in
       absurd (c.two p.0 r.0 y w p.2 r.2 (let same : Some p.0 ≡ Some r.0 = sym p.1 ∙ r.1 in cc))
   same_parallel a x u b y w Different Same n valid ok ok' at here c =
-      let bonds = both_bonds sig a x u b y w 2 (blank_node sig b ∷ []) valid.0 valid.1 valid.5 (omega arith) in
-      let p = place_bond _ g qs at 0 n x 1 y here bonds.0 in
-      let r = place_bond _ g qs at 0 n u 2 w here bonds.1 in
+      let bonds = TestsBond-root_of sig (different a x u b y w) (IsShape-different sig a x u b y w valid) in
+      let p = place_bond _ g qs at 0 n x 1 y here bonds.0.first in
+      let r = place_bond _ g qs at 0 n u 2 w here bonds.1.0.first in
       let same : p.0 ≡ r.0 = c.one p.0 r.0 y w p.2 r.2 in
       let number : ◌≡◌ {A = ℕ} 1 2 = at.different 1 2 r.0 (p.1 ∙ ap Some same) r.1 in
       absurd cc
@@ -128,16 +121,19 @@ module _ (sig : List TypeEntry) (g : List Node) (qs : List ℕ) where
 
   -- only this very row is compatible there
   pub same_row : (family : Family) (row row' : Row) → IsFamily sig family → IsRow sig family row → IsRow sig family row' → IsPlace (row_pattern sig family row) g qs → IsCompatible g family (through qs (places 0 (root_size family))) row' → row' ≡ row
-  same_row (View a sites) (Locals ls) row' valid ok ok' at c =
-      let long : 0 < length qs = rw (at.count, length-row_pattern sig (View a sites) (Locals ls) ok) (omega arith) in
-      same_view a sites ls row' (get_or qs 0 0) valid ok ok' at (slice_get-get_or qs 0 0 long) c
-  same_row (Across a x p b y q) (Locals (l ∷ k ∷ [])) row' valid ok ok' at c =
-      let count : length qs ≡ 2 = at.count ∙ length-row_pattern sig (Across a x p b y q) (Locals (l ∷ k ∷ [])) ok in
-      same_across a x p b y q l k row' (get_or qs 0 0) (get_or qs 1 0) valid ok ok' at (slice_get-get_or qs 0 0 (omega arith)) (slice_get-get_or qs 1 0 (omega arith)) c
-  same_row (Parallel a x u b y w) Same row' valid ok ok' at c =
-      let count : length qs ≡ 2 = at.count ∙ length-row_pattern sig (Parallel a x u b y w) Same ok in
-      same_parallel a x u b y w Same row' (get_or qs 0 0) valid ok ok' at (slice_get-get_or qs 0 0 (omega arith)) c
-  same_row (Parallel a x u b y w) Different row' valid ok ok' at c =
-      let count : length qs ≡ 3 = at.count ∙ length-row_pattern sig (Parallel a x u b y w) Different ok in
-      same_parallel a x u b y w Different row' (get_or qs 0 0) valid ok ok' at (slice_get-get_or qs 0 0 (omega arith)) c
+  same_row (Parallel a x u b y w) row row' valid ok ok' at c =
+      let count = at.count ∙ length_of _ (row_types (Parallel a x u b y w) row) (types_of-row_pattern sig (Parallel a x u b y w) row ok) in
+      same_parallel a x u b y w row row' (get_or qs 0 0) valid ok ok' at (slice_get-get_or qs 0 0 (some_node row count)) c
+    where
+      some_node : (row : Row) → length qs ≡ length (row_types (Parallel a x u b y w) row) → 0 < length qs
+      some_node Same e = omega arith
+      some_node Different e = omega arith
+      some_node (Locals ls) e = omega arith
+  same_row family (Locals ls) (Locals ks) valid ok ok' at c =
+      let shape = shape_of family in
+      let count = at.count ∙ length_of _ shape.types (types_of-pattern sig shape ls) in
+      ap Locals (same_columns sig g qs shape.types (through qs (places 0 (length shape.types))) (through-first qs (length shape.types) count) shape.columns ls ks ok ok'
+      (place_locals _ g qs at shape.columns ls (TestsLocals-pattern_of sig shape ls (IsShape-of sig family valid) ok)) c)
+  same_row family (Locals ls) Same valid ok ok' at c = absurd ok'
+  same_row family (Locals ls) Different valid ok ok' at c = absurd ok'
   same_row family row row' valid ok ok' at c = absurd ok

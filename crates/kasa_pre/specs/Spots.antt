@@ -19,7 +19,7 @@ pub record StandsFrom (sig : List TypeEntry) (family : Family) (g : List Node) (
 -- the spot is the only such place, none where there is none
 abbrev pub IsOnlySpot : List TypeEntry → Family → List Node → ℕ → Option Spot → Type 0
 IsOnlySpot sig family g n None = (place : List ℕ) → ¬ StandsFrom sig family g n place
-IsOnlySpot sig family g n (Some spot) = StandsFrom sig family g n (place_of spot) × ((place : List ℕ) → StandsFrom sig family g n place → place ≡ place_of spot)
+IsOnlySpot sig family g n (Some spot) = StandsFrom sig family g n (place_of g family spot) × ((place : List ℕ) → StandsFrom sig family g n place → place ≡ place_of g family spot)
 
 -- at each such place some row of the family is compatible
 abbrev pub IsAllowedFrom : List TypeEntry → List Table → List Node → ℕ → Family → Type 0

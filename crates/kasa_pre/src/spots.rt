@@ -39,6 +39,30 @@ pub fn spot_from(sig: &Signature, g: &Pattern, family: &Family, node: NodeNo) ->
                 None
             }
         }
+        Family::Chain {
+            x,
+            b,
+            y,
+            z,
+            c,
+            w,
+            ..
+        } => match bond_partner(sig, g, node, *x, *b, *y) {
+            None => None,
+            Some(second) => match bond_partner(sig, g, second, *z, *c, *w) {
+                None => None,
+                Some(third) => {
+                    if third == node {
+                        None
+                    } else {
+                        Some(Spot {
+                            first,
+                            second: Some(second),
+                        })
+                    }
+                }
+            },
+        },
     }
 }
 

@@ -11,7 +11,7 @@ use Rattle.kasa_graph.proofs.SignatureLemmas.{length-map}
 use Rattle.kasa_rules.specs.declared.model.Model.{Model}
 use Rattle.kasa_rules.specs.Reached.{IsModel}
 use Rattle.kasa_families.specs.declared.family.Family.{Family}
-use Rattle.kasa_families.specs.declared.family.Family.TheVariants.{View, Across, Parallel}
+use Rattle.kasa_families.specs.declared.family.Family.TheVariants.{View, Across, Parallel, Chain}
 use Rattle.kasa_families.specs.Family.{IsFamily}
 use Rattle.kasa_views.specs.View.{IsView}
 use Rattle.kasa_top.specs.Plan.{IsSiteSet, IsViewOf, IsPlanned, PrecedesList, Precedes, AreInOrder, IsViewPlan, PlansMore}
@@ -170,6 +170,7 @@ all_planned : (model : Model) (n : ℕ) (f : Family) → n ≡ length model.sig 
 all_planned model n (View a sites) e (less, view) = (a, omega arith, (sites, refl, view))
 all_planned model n (Across a x p b y q) e planned = absurd planned
 all_planned model n (Parallel a x u b y w) e planned = absurd planned
+all_planned model n (Chain a x p b y z c w q) e planned = absurd planned
 
 -- the views of all types in order are the plan
 pub IsViewPlan-all : (model : Model) (n : ℕ) (views families : List Family) → n ≡ length model.sig → ((f : Family) → Has views f ↔ IsPlannedBefore model n f) → families ≡ views → AreInOrder families → IsViewPlan model families
@@ -196,11 +197,13 @@ IsFamily-planned model (View a sites) is named (less, inr (set, largest)) =
     (less, (λ k s h. set_within model a sites s is set (k, h)), set_ascends model a sites set, few)
 IsFamily-planned model (Across a x p b y q) is named planned = absurd planned
 IsFamily-planned model (Parallel a x u b y w) is named planned = absurd planned
+IsFamily-planned model (Chain a x p b y z c w q) is named planned = absurd planned
 
 pub IsView-planned : (model : Model) (f : Family) → IsPlanned model f → IsView f
 IsView-planned model (View a sites) planned = tt
 IsView-planned model (Across a x p b y q) planned = absurd planned
 IsView-planned model (Parallel a x u b y w) planned = absurd planned
+IsView-planned model (Chain a x p b y z c w q) planned = absurd planned
 
 not_itself : (xs : List ℕ) → PrecedesList xs xs → ⊥
 not_itself [] p = p
@@ -212,6 +215,7 @@ never_itself (View a sites) (inl less) = absurd (omega arith)
 never_itself (View a sites) (inr rest) = not_itself sites rest.1
 never_itself (Across a x p b y q) e = e
 never_itself (Parallel a x u b y w) e = e
+never_itself (Chain a x p b y z c w q) e = e
 
 -- families in order are different
 pub AllDifferent-ordered : (fs : List Family) → AreInOrder fs → AllDifferent fs

@@ -1,5 +1,4 @@
 pub mod SeenLemmas
-pub mod ComesLemmas
 pub mod Forward
 pub mod StandSites
 pub mod OutcomeLemmas

@@ -9,71 +9,26 @@ use Rattle.kasa_rules.specs.Rule.{RuleParts}
 use Rattle.kasa_pre.specs.declared.Stand.{Stand}
 use Rattle.kasa_pre.specs.declared.FreedBy.{FreedBy}
 use Rattle.kasa_views.specs.Comes.{local_after, local_freed, IsSource, Outcome, kept_before, freed_before, ComesOut}
-use Rattle.kasa_views.specs.Outcomes.{HaveDifferentSources, FreesToo, FreesBefore, ComesBefore}
-
--- ---- different sources
-
-HaveDifferentSources-[] : HaveDifferentSources []
-HaveDifferentSources-[] i j f g at = absurd cc
-
-HaveDifferentSources-tail : (f : FreedBy) (freed : List FreedBy) → HaveDifferentSources (f ∷ freed) → HaveDifferentSources freed
-HaveDifferentSources-tail f freed different i j g h p q from there = let e = different (suc i) (suc j) g h p q from there in omega arith
-
-HaveDifferentSources-head : (f : FreedBy) (freed : List FreedBy) → HaveDifferentSources (f ∷ freed) → ¬ FreesToo freed f
-HaveDifferentSources-head f freed different (g, has, from, there) = let e = different zero (suc has.0) f g refl has.1 (sym from) (sym there) in omega arith
-
-HaveDifferentSources-cons : (f : FreedBy) (freed : List FreedBy) → ¬ FreesToo freed f → HaveDifferentSources freed → HaveDifferentSources (f ∷ freed)
-HaveDifferentSources-cons f freed out different zero zero g h p q from there = refl
-HaveDifferentSources-cons f freed out different zero (suc j) g h p q from there = absurd (let same : f ≡ g = cc in out (h, (j, q), rw same (sym from), rw same (sym there)))
-HaveDifferentSources-cons f freed out different (suc i) zero g h p q from there = absurd (let same : f ≡ h = cc in out (g, (i, p), rw same from, rw same there))
-HaveDifferentSources-cons f freed out different (suc i) (suc j) g h p q from there = ap suc (different i j g h p q from there)
+use Rattle.kasa_views.specs.Outcomes.{FreesToo, FreesBefore, ComesBefore}
 
 -- ---- the outcomes of an agent
 
 pub record AreOutcomes (r : RuleParts) (stand : Stand) (sites : List ℕ) (shown : List Local) (outs : List Outcome) : Type 0 where
   pub sound : (out : Outcome) → Has outs out → ComesOut r stand sites shown out
-  pub apart : (out : Outcome) → Has outs out → HaveDifferentSources out.freed
-  pub complete : (out : Outcome) → ComesOut r stand sites shown out → HaveDifferentSources out.freed → Has outs out
+  pub complete : (out : Outcome) → ComesOut r stand sites shown out → Has outs out
 
 pub no_sites : (r : RuleParts) (stand : Stand) → AreOutcomes r stand [] [] (record { locals = []; freed = [] } ∷ [])
-no_sites r stand = record { sound = sound; apart = apart; complete = λ out comes _. (zero, ap Some (sym comes)) }
+no_sites r stand = record { sound = λ out has. only out has.0 has.1; complete = λ out comes. (zero, ap Some (sym comes)) }
   where
-    only : (out : Outcome) → Has (record { locals = []; freed = [] } ∷ []) out → out ≡ record { locals = []; freed = [] }
-    only out (zero, e) = cc
-    only out (suc k, e) = absurd cc
+    only : (out : Outcome) (k : ℕ) → slice_get (record { locals = []; freed = [] } ∷ []) k ≡ Some out → out ≡ record { locals = []; freed = [] }
+    only out zero e = cc
+    only out (suc k) e = absurd cc
 
-    sound : (out : Outcome) → Has (record { locals = []; freed = [] } ∷ []) out → ComesOut r stand [] [] out
-    sound out has = only out has
-
-    apart : (out : Outcome) → Has (record { locals = []; freed = [] } ∷ []) out → HaveDifferentSources out.freed
-    apart out has = rw (only out has) HaveDifferentSources-[]
-
-module _ (r : RuleParts) (stand : Stand) (s : ℕ) (l : Local) (sites : List ℕ) (shown : List Local) (rest outs : List Outcome) where
-  one_site_more : AreOutcomes r stand sites shown rest → ((out : Outcome) → Has outs out ↔ ComesBefore r stand s l rest out) → AreOutcomes r stand (s ∷ sites) (l ∷ shown) outs
-  one_site_more are each = record { sound = sound; apart = apart; complete = complete }
-    where
-      sound : (out : Outcome) → Has outs out → ComesOut r stand (s ∷ sites) (l ∷ shown) out
-      sound out has = let was = (each out).0 has in (
-        was.0,
-        are.sound was.0 was.1,
-        (elim was.2 [
-          | inl kept ↦ inl kept
-          | inr freed ↦ inr (freed.0, freed.1, freed.3)
-        ]),
-      )
-
-      apart : (out : Outcome) → Has outs out → HaveDifferentSources out.freed
-      apart out has = let was = (each out).0 has in elim was.2 [
-        | inl kept ↦ rw kept (are.apart was.0 was.1)
-        | inr freed ↦ rw freed.3 (HaveDifferentSources-cons freed.0 was.0.freed freed.2 (are.apart was.0 was.1))
-      ]
-
-      complete : (out : Outcome) → ComesOut r stand (s ∷ sites) (l ∷ shown) out → HaveDifferentSources out.freed → Has outs out
-      complete out (old, comes, inl kept) different =
-          (each out).1 (old, are.complete old comes (rw kept at different), inl kept)
-      complete out (old, comes, inr (f, source, freed)) different =
-          let all : HaveDifferentSources (f ∷ old.freed) = rw freed at different in
-          (each out).1 (old, are.complete old comes (HaveDifferentSources-tail f old.freed all), inr (f, source, HaveDifferentSources-head f old.freed all, freed))
+one_site_more : (r : RuleParts) (stand : Stand) (s : ℕ) (l : Local) (sites : List ℕ) (shown : List Local) (rest outs : List Outcome) → AreOutcomes r stand sites shown rest → ((out : Outcome) → Has outs out ↔ ComesBefore r stand s l rest out) → AreOutcomes r stand (s ∷ sites) (l ∷ shown) outs
+one_site_more r stand s l sites shown rest outs are each = record {
+  sound = λ out has. let was = (each out).0 has in (was.0, are.sound was.0 was.1, was.2);
+  complete = λ out comes. (each out).1 (comes.0, are.complete comes.0 comes.1, comes.2);
+}
 
 drop_at : {X : Type 0} (xs : List X) (n : ℕ) (x : X) → slice_get xs n ≡ Some x → drop n xs ≡ x ∷ drop (suc n) xs
 drop_at [] n x e = absurd cc

@@ -27,9 +27,8 @@ use Rattle.kasa_families.specs.contracts.row.RowEq.TheImpl.Laws.{laws-law as equ
 use Rattle.kasa_families.proofs.SameValue.{same_row}
 use Rattle.kasa_families.proofs.RowOrder.{AreAscending-strictly_sorted}
 use Rattle.kasa_families.proofs.RowTests.{AllDifferent-ascends}
-use Rattle.kasa_families.proofs.RowPattern.{types_of-view}
-use Rattle.kasa_families.proofs.LocalLemmas.{AreLocals-local_in, IsEmbedding-with_locals, locals_in-only}
-use Rattle.kasa_families.proofs.Orthogonal.{length-cells, type_in-cells}
+use Rattle.kasa_families.proofs.ShapeOnce.{length-cells}
+use Rattle.kasa_families.proofs.KindLemmas.{types_of-view, view_there, view_only}
 use Rattle.kasa_views.specs.Seen.{row_in, IsSeen}
 
 -- ---- cell by cell
@@ -78,24 +77,12 @@ living m c a typed =
     slice_get_within m c cell.0 cell.1
 
 module _ (sig : List TypeEntry) (m : List (Option Agent)) (over : IsMixtureOver sig m) (a : ℕ) (sites : List ℕ) (ok : IsFamily sig (View a sites)) where
-  has_sites : (i s : ℕ) → slice_get sites i ≡ Some s → HasNodeSite (blank_node sig a ∷ []) 0 s
-  has_sites i s e = HasNodeSite-blank sig (a ∷ []) 0 s a refl (ok.1 i s e)
-
   shown : (c : ℕ) → type_in m c ≡ Some a → IsRow sig (View a sites) (row_in m sites c) × Occurs sig (View a sites) (row_in m sites c) m
-  shown c typed = (
-    AreLocals-local_in sig m over (c ∷ []) 0 c a refl typed sites ok.1,
-    (c ∷ [], IsEmbedding-with_locals sig m over (c ∷ []) 0 c a refl typed (blank_node sig a ∷ []) sites has_sites (IsEmbedding-blank sig (a ∷ []) m (c ∷ []) refl (AllDifferent-cons c [] (λ i e. absurd cc) AllDifferent-[]) typed_at)),
-  )
-    where
-      typed_at : (n d b : ℕ) → slice_get (c ∷ []) n ≡ Some d → slice_get (a ∷ []) n ≡ Some b → type_in m d ≡ Some b
-      typed_at zero d b here is = let e : c ≡ d = cc in let f : a ≡ b = cc in rw (← e, ← f) typed
-      typed_at (suc n) d b here is = absurd cc
+  shown c typed = let there = view_there sig a sites m over ok c typed in (there.0, (c ∷ [], there.1))
 
   occurs_once : (row : Row) → IsRow sig (View a sites) row → Occurs sig (View a sites) row m → (c : ℕ) × (type_in m c ≡ Some a) × (row_in m sites c ≡ row)
   occurs_once (Locals locals) valid ([], emb) = absurd (let e = length-cells _ (a ∷ []) (types_of-view sig a sites locals) m [] emb in omega arith)
-  occurs_once (Locals locals) valid (c ∷ cells, emb) =
-      let typed = type_in-cells _ (a ∷ []) (types_of-view sig a sites locals) m (c ∷ cells) emb 0 c a refl refl in
-      (c, typed, sym (ap Locals (locals_in-only sig m over (c ∷ cells) 0 c a refl typed (blank_node sig a ∷ []) sites locals (AllDifferent-ascends sites ok.2) has_sites ok.1 valid emb)))
+  occurs_once (Locals locals) valid (c ∷ cells, emb) = let only = view_only sig a sites m over ok locals c cells valid emb in (c, only.0, sym (ap Locals only.1))
   occurs_once Same valid occurs = absurd valid
   occurs_once Different valid occurs = absurd valid
 

@@ -1,6 +1,7 @@
 -- The steps of a search for the rows of a view that a rule yields.
-use Rattle.std.proofs.Common.{◌≡◌, ℕ, zero, suc, ◌<◌, ◌≤◌, ◌+◌, ◌↔◌, inl, inr, Bool, true, List, [], ◌∷◌, refl, sym, ap, ◌∙◌, subst, length, arith, below_more, Option, Some, None}
+use Rattle.std.proofs.Common.{◌≡◌, ℕ, zero, suc, ◌<◌, ◌≤◌, ◌+◌, ◌↔◌, inl, inr, Bool, true, List, [], ◌∷◌, refl, sym, ap, ◌∙◌, subst, length, map, arith, below_more, Option, Some, None}
 use Rattle.std.specs.Prelude.{slice_get, IsTrue}
+use Rattle.std.proofs.lemmas.List.{length-map}
 use Rattle.std.proofs.lemmas.Option.{same_Some, slice_get_within}
 use Rattle.kasa_pre.specs.Allowed.{IsAllowed}
 use Rattle.kasa_graph.specs.declared.pattern.Node.{Node}
@@ -20,8 +21,8 @@ use Rattle.kasa_families.specs.Family.{IsFamily}
 use Rattle.kasa_families.specs.Row.{IsRow, AreLocals}
 use Rattle.kasa_families.specs.Pattern.{local_link_test, row_pattern}
 use Rattle.kasa_families.specs.Table.{Table, families_of, rows_of, Holds}
-use Rattle.kasa_families.proofs.RowPattern.{types_of-view}
-use Rattle.kasa_families.proofs.RowTests.{AllDifferent-ascends, link_test-with_locals_at}
+use Rattle.kasa_families.proofs.RowTests.{AllDifferent-ascends}
+use Rattle.kasa_families.proofs.KindLemmas.{IsRow-view, types_of-view, TestsLocal-view}
 use Rattle.kasa_families.proofs.TableLemmas.{IsFamily-of_tables, family_at, rows_of-some, table_of}
 use Rattle.kasa_rules.specs.declared.rule.MadeAgent.{MadeAgent}
 use Rattle.kasa_rules.specs.Rule.{RuleParts, made_type, touched}
@@ -31,128 +32,26 @@ use Rattle.kasa_pre.specs.declared.FreedBy.{FreedBy}
 use Rattle.kasa_pre.specs.Before.{FitsStand, place_of, outside_types, link_written, AreFreed}
 use Rattle.kasa_pre.specs.Yields.{Yields}
 use Rattle.kasa_views.specs.declared.collect.Aim.{Aim}
+use Rattle.kasa_families.specs.Shape.{at}
+use Rattle.kasa_families.specs.Family.{shape_of}
+use Rattle.kasa_families.proofs.FamilyShape.{IsShape-of}
+use Rattle.kasa_columns.proofs.FreedColumns as columns
 use Rattle.kasa_views.specs.Comes.{Outcome, ComesOut, MayHaveShown, YieldsAt, ComesForward}
-use Rattle.kasa_views.specs.Outcomes.{HaveDifferentSources}
 use Rattle.kasa_views.specs.Results.{IsResult}
-use Rattle.kasa_views.proofs.ComesLemmas.{length-locals}
+use Rattle.kasa_views.proofs.Forward.{length-locals}
 use Rattle.kasa_views.proofs.Forward.{yields-forward}
 use Rattle.kasa_views.specs.Collect.{IsAsked, IsSettled, GoesOn, StandsAfter, IsOutcomeSettled, IsShownSettled, IsStandSettled, AreStoredSettled}
 
--- ---- the freed tests of an outcome
-
--- the outcome frees a test at a site, which is free there
-record FreedAt (r : RuleParts) (stand : Stand) (sites : List ℕ) (locals : List Local) (f : FreedBy) : Type 0 where
-  index : ℕ
-  listed : slice_get sites index ≡ Some f.site
-  node : f.node ≡ 0
-  unwritten : link_written r stand f.site ≡ None
-  by_touched : touched r f.from f.«at» ≡ true
-  shown : Local
-  there : slice_get locals index ≡ Some shown
-  free : shown.link ≡ local.Free
+-- ---- an outcome of a view
 
 module _ (r : RuleParts) (stand : Stand) where
+  -- it has a local state for each site
   pub length-outcome : (sites : List ℕ) (shown : List Local) (out : Outcome) → ComesOut r stand sites shown out → length out.locals ≡ length sites
-  length-outcome [] [] out comes = ap (λ (o : Outcome). length o.locals) comes
-  length-outcome [] (l ∷ shown) out comes = absurd comes
-  length-outcome (s ∷ sites) [] out comes = absurd comes
-  length-outcome (s ∷ sites) (l ∷ shown) out (rest, comes, inl e) = ap (λ (o : Outcome). length o.locals) e ∙ ap suc (length-outcome sites shown rest comes)
-  length-outcome (s ∷ sites) (l ∷ shown) out (rest, comes, inr (f, source, e)) = ap (λ (o : Outcome). length o.locals) e ∙ ap suc (length-outcome sites shown rest comes)
+  length-outcome sites shown out comes = columns.length-outcome r (stand ∷ []) (map (at 0) sites) shown out comes ∙ length-map sites (at 0)
 
-  later : (s : ℕ) (l : Local) (sites : List ℕ) (locals : List Local) (f : FreedBy) → FreedAt r stand sites locals f → FreedAt r stand (s ∷ sites) (l ∷ locals) f
-  later s l sites locals f h = record {
-    index = suc h.index;
-    listed = h.listed;
-    node = h.node;
-    unwritten = h.unwritten;
-    by_touched = h.by_touched;
-    shown = h.shown;
-    there = h.there;
-    free = h.free;
-  }
-
-  freed_at : (sites : List ℕ) (shown : List Local) (out : Outcome) → ComesOut r stand sites shown out → (f : FreedBy) → Has out.freed f → FreedAt r stand sites out.locals f
-  freed_at [] [] out comes f (k, is) = absurd (let none = rw (ap (λ (o : Outcome). o.freed) comes) at is in cc)
-  freed_at [] (l ∷ shown) out comes f has = absurd comes
-  freed_at (s ∷ sites) [] out comes f has = absurd comes
-  freed_at (s ∷ sites) (l ∷ shown) out (rest, comes, inl e) f (k, is) =
-      let same : slice_get rest.freed k ≡ Some f = rw (ap (λ (o : Outcome). o.freed) e) at is in
-      rw (ap (λ (o : Outcome). o.locals) e) (later s _ sites rest.locals f (freed_at sites shown rest comes f (k, same)))
-  freed_at (s ∷ sites) (l ∷ shown) out (rest, comes, inr (f', source, e)) f (zero, is) =
-      let first : slice_get (f' ∷ rest.freed) zero ≡ Some f = rw (ap (λ (o : Outcome). o.freed) e) at is in
-      let same : f' ≡ f = cc in
-      rw (ap (λ (o : Outcome). o.locals) e, ← same) (record {
-        index = 0;
-        listed = ap Some (sym source.site);
-        node = source.node;
-        unwritten = rw source.site source.unwritten;
-        by_touched = source.by_touched;
-        shown = _;
-        there = refl;
-        free = refl;
-      })
-  freed_at (s ∷ sites) (l ∷ shown) out (rest, comes, inr (f', source, e)) f (suc k, is) =
-      let same : slice_get (f' ∷ rest.freed) (suc k) ≡ Some f = rw (ap (λ (o : Outcome). o.freed) e) at is in
-      rw (ap (λ (o : Outcome). o.locals) e) (later s _ sites rest.locals f (freed_at sites shown rest comes f (k, same)))
-
-  -- no site is freed twice
-  different_at : (sites : List ℕ) (shown : List Local) (out : Outcome) → ComesOut r stand sites shown out → AllDifferent sites → (i j : ℕ) (f g : FreedBy) → slice_get out.freed i ≡ Some f → slice_get out.freed j ≡ Some g → f.site ≡ g.site → i ≡ j
-  different_at [] [] out comes different i j f g is has same = absurd (let none = rw (ap (λ (o : Outcome). o.freed) comes) at is in cc)
-  different_at [] (l ∷ shown) out comes different i j f g is has same = absurd comes
-  different_at (s ∷ sites) [] out comes different i j f g is has same = absurd comes
-  different_at (s ∷ sites) (l ∷ shown) out (rest, comes, inl e) different i j f g is has same =
-      different_at sites shown rest comes (AllDifferent-tail s sites different) i j f g (rw (ap (λ (o : Outcome). o.freed) e) at is) (rw (ap (λ (o : Outcome). o.freed) e) at has) same
-  different_at (s ∷ sites) (l ∷ shown) out (rest, comes, inr (f', source, e)) different i j f g is has same =
-      by i j (rw (ap (λ (o : Outcome). o.freed) e) at is) (rw (ap (λ (o : Outcome). o.freed) e) at has) (λ n m. different_at sites shown rest comes (AllDifferent-tail s sites different) n m f g)
-    where
-      -- the first site isn't one of the others
-      apart : (h h' : FreedBy) (k : ℕ) → f' ≡ h → slice_get rest.freed k ≡ Some h' → h.site ≡ h'.site → ⊥
-      apart h h' k first is same =
-          let listed = freed_at sites shown rest comes h' (k, is) in
-          AllDifferent-head s sites listed.index different (listed.listed ∙ ap Some (sym same ∙ ap (λ (x : FreedBy). x.site) (sym first) ∙ source.site))
-
-      by : (i j : ℕ) → slice_get (f' ∷ rest.freed) i ≡ Some f → slice_get (f' ∷ rest.freed) j ≡ Some g → ((n m : ℕ) → slice_get rest.freed n ≡ Some f → slice_get rest.freed m ≡ Some g → f.site ≡ g.site → n ≡ m) → i ≡ j
-      by zero zero is has rest_same = refl
-      by zero (suc j) is has rest_same = let e : f' ≡ f = cc in absurd (apart f g j e has same)
-      by (suc i) zero is has rest_same = let e : f' ≡ g = cc in absurd (apart g f i e is (sym same))
-      by (suc i) (suc j) is has rest_same = ap suc (rest_same i j is has same)
-
-  -- a stand at which nothing is written has a place before
-  has_place : (s : ℕ) → link_written r stand s ≡ None → (p : ℕ) × (place_of r (stand ∷ []) 0 ≡ Some p)
-  unfolding place_of
-  has_place s none = by stand none
-    where
-      by : (x : Stand) → link_written r x s ≡ None → (p : ℕ) × (place_of r (x ∷ []) 0 ≡ Some p)
-      by (Left n) none = (n, refl)
-      by (Made k) none = absurd cc
-      by Outside none = (length r.left, refl)
-
-  -- what is yielded frees no two tests from one source, since bonds are mutual
-  pub HaveDifferentSources-yielded : (sig : List TypeEntry) (tables : List Table) (a : ℕ) (sites : List ℕ) → IsFamily sig (View a sites) → (shown : List Local) (out : Outcome) → ComesOut r stand sites shown out → YieldsAt sig tables r a sites stand out → HaveDifferentSources out.freed
-  HaveDifferentSources-yielded sig tables a sites valid shown out comes yields i j f g is has from site =
-      let first = freed_at sites shown out comes f (i, is) in
-      let second = freed_at sites shown out comes g (j, has) in
-      let place = has_place f.site first.unwritten in
-      let bond = yields.before.sources f (i, is) place.0 (ap (place_of r (stand ∷ [])) first.node ∙ place.1) in
-      let other = yields.before.sources g (j, has) place.0 (ap (place_of r (stand ∷ [])) second.node ∙ place.1) in
-      let back = yields.before.valid.linked.both_ways place.0 f.site f.from f.«at» bond in
-      let other_back = yields.before.valid.linked.both_ways place.0 g.site g.from g.«at» other in
-      let to : test.To place.0 f.site ≡ test.To place.0 g.site = sym back ∙ ap (λ (n : ℕ). link_test yields.pattern n f.«at») from ∙ ap (λ (s : ℕ). link_test yields.pattern g.from s) site ∙ other_back in
-      different_at sites shown out comes (AllDifferent-ascends sites valid.2) i j f g is has (let same : f.site ≡ g.site = cc in same)
-
-  -- the freed tests are free tests of the row's pattern
+  -- and its freed tests are free tests of the row's pattern
   pub AreFreed-outcome : (sig : List TypeEntry) (a : ℕ) (sites : List ℕ) → IsFamily sig (View a sites) → (shown : List Local) (out : Outcome) → ComesOut r stand sites shown out → AreFreed r (row_pattern sig (View a sites) (Locals out.locals)) (stand ∷ []) out.freed
-  AreFreed-outcome sig a sites valid shown out comes = record {
-    free = λ f has. let h = freed_at sites shown out comes f has in rw h.node (free h);
-    unwritten = λ f has. let h = freed_at sites shown out comes f has in (stand, rw h.node refl, h.unwritten);
-    by_touched = λ f has. (freed_at sites shown out comes f has).by_touched;
-  }
-    where
-      has_site : (i s : ℕ) → slice_get sites i ≡ Some s → HasNodeSite (blank_node sig a ∷ []) 0 s
-      has_site i s e = HasNodeSite-blank sig (a ∷ []) 0 s a refl (valid.1 i s e)
-
-      free : {f : FreedBy} → FreedAt r stand sites out.locals f → link_test (row_pattern sig (View a sites) (Locals out.locals)) 0 f.site ≡ test.Free
-      free {f} h = link_test-with_locals_at (blank_node sig a ∷ []) 0 sites out.locals h.index f.site h.shown (AllDifferent-ascends sites valid.2) h.listed h.there (has_site h.index f.site h.listed) ∙ ap local_link_test h.free
+  AreFreed-outcome sig a sites valid shown out comes = columns.AreFreed-outcome r (stand ∷ []) sig (shape_of (View a sites)) (IsShape-of sig (View a sites) valid) shown out comes
 
 -- ---- the rows of the view
 
@@ -236,8 +135,8 @@ module _ (sig : List TypeEntry) (tables : List Table) (r : RuleParts) (f : ℕ) 
   pub stands-yielded : YieldsAt sig tables r a sites stand out → StandsAfter sig tables r (row_pattern sig family (Locals out.locals)) stand out.freed
   stands-yielded yields = rw asked.is_view (yields.pattern, yields.before, yields.allowed)
 
-  pub IsRow-locals : AreLocals sig a sites out.locals → IsRow sig family (Locals out.locals)
-  IsRow-locals are = rw asked.is_view are
+  pub IsRow-locals : IsRow sig (View a sites) (Locals out.locals) → IsRow sig family (Locals out.locals)
+  IsRow-locals row = rw asked.is_view row
 
 -- ---- how far a search went
 
@@ -260,9 +159,9 @@ module _ (sig : List TypeEntry) (tables : List Table) (r : RuleParts) (f : ℕ) 
   next_outcome stand outs n old new out first on is settled =
       below_more _ n (λ k within other there. IsOutcomeSettled-on old new on stand other (first k within other there)) (λ other there. let same : out ≡ other = same_Some out other (sym is ∙ there) in subst (IsOutcomeSettled sig tables r f aim a sites stand new) same settled)
 
-  pub all_outcomes : IsFamily sig (View a sites) → (stand : Stand) (shown : List Local) (outs : List Outcome) (n : ℕ) (found : List Row) → length outs ≤ n → ((out : Outcome) → ComesOut r stand sites shown out → HaveDifferentSources out.freed → Has outs out) → FirstOutcomes stand outs n found → IsShownSettled sig tables r f aim a sites stand found shown
-  all_outcomes valid stand shown outs n found end complete first out comes are yields =
-      let has = complete out comes (HaveDifferentSources-yielded r stand sig tables a sites valid shown out comes yields) in
+  pub all_outcomes : (stand : Stand) (shown : List Local) (outs : List Outcome) (n : ℕ) (found : List Row) → length outs ≤ n → ((out : Outcome) → ComesOut r stand sites shown out → Has outs out) → FirstOutcomes stand outs n found → IsShownSettled sig tables r f aim a sites stand found shown
+  all_outcomes stand shown outs n found end complete first out comes are yields =
+      let has = complete out comes in
       let within = slice_get_within outs has.0 out has.1 in
       first has.0 (omega arith) out has.1 are yields
 
@@ -291,7 +190,7 @@ module _ (sig : List TypeEntry) (tables : List Table) (r : RuleParts) (f : ℕ) 
 
     -- each row of the family by number has a local state for each site
     pub length-stored : (k : ℕ) (shown : List Local) → slice_get (rows_of tables f) k ≡ Some (Locals shown) → length shown ≡ length sites
-    length-stored k shown there = length-locals sig a sites shown (subst (λ (x : Family). IsRow sig x (Locals shown)) asked.is_view (IsRow-stored sig tables r f family a sites asked (Locals shown) (k, there)))
+    length-stored k shown there = length-locals sig a sites shown ((IsRow-view sig a sites shown).0 (subst (λ (x : Family). IsRow sig x (Locals shown)) asked.is_view (IsRow-stored sig tables r f family a sites asked (Locals shown) (k, there))))
 
     -- so each result is settled
     pub all_settled : (found : List Row) → ((n : ℕ) → FitsStand r (Left n) a → IsStandSettled sig tables r f aim a sites found (Left n)) → ((k : ℕ) → FitsStand r (Made k) a → IsStandSettled sig tables r f aim a sites found (Made k)) → AreStoredSettled sig tables r f aim a sites Outside found → (row : Row) → IsResult sig tables r f row → IsSettled (rows_of tables f) aim found row
@@ -302,8 +201,8 @@ module _ (sig : List TypeEntry) (tables : List Table) (r : RuleParts) (f : ℕ) 
         settled : (locals : List Local) → AreLocals sig a sites locals → ComesForward sig tables r a sites locals → IsSettled (rows_of tables f) aim found (Locals locals)
         settled locals are forward = subst (λ (ls : List Local). IsSettled (rows_of tables f) aim found (Locals ls)) forward.is (at_stand forward.stand forward.fits forward.may forward.comes forward.yields)
           where
-            are_out : AreLocals sig a sites forward.out.locals
-            are_out = rw forward.is are
+            are_out : IsRow sig (View a sites) (Locals forward.out.locals)
+            are_out = (IsRow-view sig a sites forward.out.locals).1 (rw forward.is are)
 
             at_stand : (stand : Stand) → FitsStand r stand a → MayHaveShown tables a sites stand forward.shown → ComesOut r stand sites forward.shown forward.out → YieldsAt sig tables r a sites stand forward.out → IsSettled (rows_of tables f) aim found (Locals forward.out.locals)
             at_stand (Left n) fits may comes yields = left n fits forward.shown may forward.out comes are_out yields
@@ -311,7 +210,7 @@ module _ (sig : List TypeEntry) (tables : List Table) (r : RuleParts) (f : ℕ) 
             at_stand Outside fits may comes yields = outside forward.shown (Has-held sig tables r f family a sites asked (Locals forward.shown) may) forward.out comes are_out yields
 
         by : (row : Row) → IsRow sig (View a sites) row → Yields sig tables r (View a sites) row → IsSettled (rows_of tables f) aim found row
-        by (Locals locals) are yields = settled locals are (yields-forward sig tables asked.valid r asked.rule a sites (IsFamily-view sig tables r f family a sites asked) locals are (f, asked.numbered ∙ ap Some asked.is_view) yields)
+        by (Locals locals) row yields = let are = (IsRow-view sig a sites locals).0 row in settled locals are (yields-forward sig tables r a sites locals asked.valid asked.rule (f, asked.numbered ∙ ap Some asked.is_view) row yields)
         by Same are yields = absurd are
         by Different are yields = absurd are
 

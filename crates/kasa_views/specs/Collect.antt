@@ -8,7 +8,7 @@ use Rattle.kasa_families.specs.declared.family.Family.TheVariants.{View}
 use Rattle.kasa_families.specs.declared.row.Local.{Local}
 use Rattle.kasa_families.specs.declared.row.Row.{Row}
 use Rattle.kasa_families.specs.declared.row.Row.TheVariants.{Locals}
-use Rattle.kasa_families.specs.Row.{AreLocals, IsRowBelow}
+use Rattle.kasa_families.specs.Row.{IsRow, IsRowBelow}
 use Rattle.kasa_families.specs.Table.{Table, AreTables, families_of, rows_of}
 use Rattle.kasa_rules.specs.Rule.{RuleParts, IsRuleOver}
 use Rattle.kasa_pre.specs.declared.Stand.{Stand}
@@ -73,7 +73,7 @@ StandsAfter sig tables r v stand freed = (g : List Node) × IsBefore sig r v (st
 -- the outcome is settled
 abbrev pub IsOutcomeSettled : List TypeEntry → List Table → RuleParts → ℕ → Aim → ℕ → List ℕ → Stand → List Row → Outcome → Type 0
 IsOutcomeSettled sig tables r f aim a sites stand found out =
-    AreLocals sig a sites out.locals → YieldsAt sig tables r a sites stand out → IsSettled (rows_of tables f) aim found (Locals out.locals)
+    IsRow sig (View a sites) (Locals out.locals) → YieldsAt sig tables r a sites stand out → IsSettled (rows_of tables f) aim found (Locals out.locals)
 
 -- so is each outcome of an agent with the stand that showed these local states
 abbrev pub IsShownSettled : List TypeEntry → List Table → RuleParts → ℕ → Aim → ℕ → List ℕ → Stand → List Row → List Local → Type 0

@@ -1,4 +1,4 @@
--- Side effects on one agent: which lists of freed tests can come together, and the outcomes with one site more.
+-- Side effects on one agent: which sites free a test, and the outcomes with one site more.
 use Rattle.std.specs.Prelude.{◌≡◌, ◌⊎◌, ℕ, true, List, Option, Some, None, slice_get}
 use Rattle.kasa_graph.specs.Lists.{Has}
 use Rattle.kasa_graph.specs.Pattern.{agent_at, HasNodeSite}
@@ -9,11 +9,8 @@ use Rattle.kasa_rules.specs.Rule.{RuleParts, touched}
 use Rattle.kasa_pre.specs.declared.Stand.{Stand}
 use Rattle.kasa_pre.specs.declared.Stand.TheVariants.{Left, Made, Outside}
 use Rattle.kasa_pre.specs.declared.FreedBy.{FreedBy}
+pub use Rattle.kasa_columns.specs.Comes.{FreesToo}
 use Rattle.kasa_views.specs.Comes.{local_after, local_freed, IsSource, Outcome, kept_before, freed_before}
-
--- a touched site has one partner at most, so it frees one test at most
-abbrev pub HaveDifferentSources : List FreedBy → Type 0
-HaveDifferentSources freed = (i j : ℕ) (f g : FreedBy) → slice_get freed i ≡ Some f → slice_get freed j ≡ Some g → f.from ≡ g.from → f.«at» ≡ g.«at» → i ≡ j
 
 -- ---- which sites free a test
 
@@ -24,10 +21,6 @@ IsTouchedPartner r a y n = (agent_at r.left n ≡ Some a) × HasNodeSite r.left 
 -- it frees the only node's test
 abbrev pub IsTouchedFor : RuleParts → ℕ → ℕ → ℕ → FreedBy → Type 0
 IsTouchedFor r s a y f = (f.node ≡ 0) × (f.site ≡ s) × (f.«at» ≡ y) × IsTouchedPartner r a y f.from
-
--- the same site frees one of the tests
-abbrev pub FreesToo : List FreedBy → FreedBy → Type 0
-FreesToo freed f = (g : FreedBy) × Has freed g × (g.from ≡ f.from) × (g.«at» ≡ f.«at»)
 
 -- ---- one site more
 

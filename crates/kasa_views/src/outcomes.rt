@@ -8,7 +8,7 @@ ghost use Rattle.kasa_pre.specs.declared.FreedBy.{FreedBy};
 ghost use Rattle.kasa_pre.specs.Before.{state_written, link_written};
 ghost use Rattle.kasa_pre.specs.Asked.{StandExists, StandsExist, HasStandSite};
 ghost use Rattle.kasa_views.specs.Comes.{Outcome as OutcomeParts, ComesOut, IsSource, link_shown, local_after, kept_before, freed_before};
-ghost use Rattle.kasa_views.specs.Outcomes.{HaveDifferentSources, IsTouchedPartner, IsTouchedFor, FreesToo, FreesBefore, ComesBefore, link_of_no_site};
+ghost use Rattle.kasa_views.specs.Outcomes.{IsTouchedPartner, IsTouchedFor, FreesToo, FreesBefore, ComesBefore, link_of_no_site};
 
 use kasa_families::{Local, LocalLink};
 use kasa_graph::{Pattern, Signature};
@@ -49,8 +49,7 @@ pub fn outcomes(
     requires count { length shown.now ≡ length sites.now }
     requires few { length sites.now ≤ 16 }
     ensures sound { IfOk result (λ outs. (out : OutcomeParts) → Has outs.items out → ComesOut rule.now stand sites.now shown.now out) }
-    ensures apart { IfOk result (λ outs. (out : OutcomeParts) → Has outs.items out → HaveDifferentSources out.freed) }
-    ensures complete { IfOk result (λ outs. (out : OutcomeParts) → ComesOut rule.now stand sites.now shown.now out → HaveDifferentSources out.freed → Has outs.items out) }
+    ensures complete { IfOk result (λ outs. (out : OutcomeParts) → ComesOut rule.now stand sites.now shown.now out → Has outs.items out) }
 {
     let mut outs = Vec::new(alloc);
     outs.push(Outcome {

@@ -6,4 +6,4 @@ use Rattle.kasa_families.specs.Spot.{place_of}
 use Rattle.kasa_families.proofs.first.first_among.Given as goal
 
 abbrev pub invariant-loop-k : goal.invariant-loop-k
-invariant-loop-k l = (j : ℕ) → l.from ≤ j → j < l.k → (row : Row) → slice_get l.rows j ≡ Some row → IsCompatible l.g l.family (place_of l.spot) row → ⊥
+invariant-loop-k l = (j : ℕ) → l.from ≤ j → j < l.k → (row : Row) → slice_get l.rows j ≡ Some row → IsCompatible l.g l.family (place_of l.g l.family l.spot) row → ⊥

@@ -3,7 +3,7 @@ use Rattle.std.specs.Prelude.{Option, Some, None, slice_get}
 use Rattle.std.specs.Option.{option_map_or}
 use Rattle.std.proofs.lemmas.Grind.{common_steps}
 use Rattle.kasa_graph.specs.Signature.{SiteEntry, TypeEntry, sites_of, state_names, state_counts, HasSite}
-use Rattle.kasa_families.specs.Row.{IsLocalState}
+use Rattle.kasa_families.specs.Local.{IsLocalState}
 use Rattle.kasa_families.proofs.valid.is_local_state.Goals as goal
 
 count_at : (sig : List TypeEntry) (a s : ℕ) → HasSite sig a s → slice_get (state_counts sig a) s ≡ Some (length (state_names sig a s))

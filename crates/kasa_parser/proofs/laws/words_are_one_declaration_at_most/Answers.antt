@@ -1,4 +1,4 @@
-use Rattle.kasa_parser.proofs.DeclarationLaws.{one_declaration}
+use Rattle.kasa_parser.proofs.TextLaws.{one_declaration}
 use Rattle.kasa_parser.proofs.laws.words_are_one_declaration_at_most.Goals as goal
 
 pub returns : goal.returns

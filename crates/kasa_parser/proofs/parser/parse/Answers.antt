@@ -2,7 +2,7 @@ use Rattle.std.proofs.Common.{◌≢◌, Ok, Err, rules}
 use Rattle.kasa_parser.specs.declared.ParseFault.TheVariants.{NoMemory as no_memory}
 use Rattle.kasa_parser.specs.Parses.{IsOutcome}
 use Rattle.kasa_parser.specs.Split.{given_of}
-use Rattle.kasa_parser.proofs.CodeParse.{outcome_within, is_outcome}
+use Rattle.kasa_parser.proofs.TextLaws.{outcome_within, is_outcome}
 use Rattle.kasa_parser.proofs.parser.parse.Goals as goal
 
 pub read_each-requires-clause-within : goal.read_each-requires-clause-within

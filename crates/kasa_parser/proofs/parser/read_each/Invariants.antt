@@ -1,5 +1,5 @@
 use Rattle.std.proofs.Common.{◌≡◌, drop}
-use Rattle.kasa_parser.specs.Reader.{read_all}
+use Rattle.kasa_parser.specs.Parses.{read_all}
 use Rattle.kasa_parser.specs.Split.{given_of, read_behind}
 use Rattle.kasa_parser.proofs.parser.read_each.Given as goal
 

@@ -1,7 +1,7 @@
 use Rattle.std.proofs.Common.{◌≡◌, ◌≤◌, ℕ, List, drop}
 use Rattle.kasa_parser.specs.Words.{words_of}
 use Rattle.kasa_parser.specs.Declarations.{declarations_of}
-use Rattle.kasa_parser.specs.Reading.{AreWithin}
+use Rattle.kasa_parser.specs.Steps.{AreWithin}
 use Rattle.kasa_parser.specs.Split.{split_from, AreTaken}
 use Rattle.kasa_parser.proofs.split.split_tokens.Given as goal
 

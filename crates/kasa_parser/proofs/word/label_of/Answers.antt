@@ -1,5 +1,5 @@
 use Rattle.std.proofs.Common.{◌≡◌, ◌+◌, true, arith, rules, take_all, sym}
-use Rattle.kasa_parser.specs.Reader.{are_digits}
+use Rattle.kasa_parser.specs.Words.{are_digits}
 use Rattle.kasa_parser.proofs.CodeWords.{next_value, no_label, a_label}
 use Rattle.kasa_parser.proofs.word.label_of.Goals as goal
 

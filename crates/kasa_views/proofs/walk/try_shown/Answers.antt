@@ -1,7 +1,7 @@
 use Rattle.std.proofs.Common.{refl, arith}
 use Rattle.std.proofs.lemmas.Option.{slice_get_read}
 use Rattle.kasa_views.proofs.CollectLemmas.{GoesOn-refl, GoesOn-trans}
-use Rattle.kasa_views.proofs.WalkLemmas.{few_sites, IsFamily-view, next_outcome, all_outcomes}
+use Rattle.kasa_views.proofs.WalkLemmas.{few_sites, next_outcome, all_outcomes}
 use Rattle.kasa_views.proofs.walk.try_shown.Goals as goal
 
 pub outcomes-requires-clause-few : goal.outcomes-requires-clause-few
@@ -27,4 +27,4 @@ returns-clause-on g c = c.loop-out.invariant.0
 
 pub returns-clause-settled : goal.returns-clause-settled
 returns-clause-settled g c =
-    all_outcomes c.args.search.now.sig.now (g.R.Rows.tables c.args.search.now.rows.now) c.args.search.now.rule.now c.args.search.now.number c.args.search.now.aim c.args.search.now.agent c.args.search.now.sites.now (IsFamily-view c.args.search.now.sig.now (g.R.Rows.tables c.args.search.now.rows.now) c.args.search.now.rule.now c.args.search.now.number c.args.search.now.family.now c.args.search.now.agent c.args.search.now.sites.now c.requires.asked) c.args.stand.now c.args.shown.now c.deref-out-items.result.now c.loop-out.out-index c.loop-out.found.keys c.loop-out-test.false (rw (← c.deref-out-items.ensures.value) at c.in_ok-outs.ensures.complete) c.loop-out.invariant.1
+    all_outcomes c.args.search.now.sig.now (g.R.Rows.tables c.args.search.now.rows.now) c.args.search.now.rule.now c.args.search.now.number c.args.search.now.aim c.args.search.now.agent c.args.search.now.sites.now c.args.stand.now c.args.shown.now c.deref-out-items.result.now c.loop-out.out-index c.loop-out.found.keys c.loop-out-test.false (rw (← c.deref-out-items.ensures.value) at c.in_ok-outs.ensures.complete) c.loop-out.invariant.1

@@ -1,12 +1,13 @@
-use Rattle.std.proofs.Common.{◌≡◌, length}
-use Rattle.kasa_parser.specs.declared.within.Within.TheVariants.{Complex}
-use Rattle.kasa_parser.specs.Reader.{items_from}
-use Rattle.kasa_parser.specs.Reader.Items.{fresh}
-use Rattle.kasa_parser.specs.Reading.{items_behind, as_items}
+use Rattle.std.proofs.Common.{◌≡◌, ◌∷◌, [], length}
+use Rattle.kasa_syntax.specs.declared.tokens.TokenKind.TheVariants.{Name}
+use Rattle.kasa_parser.specs.Words.{only}
+use Rattle.kasa_parser.specs.Rules.{listed_some}
+use Rattle.kasa_parser.specs.Decls.{an_agent}
+use Rattle.kasa_parser.proofs.Loops.{with_more}
 use Rattle.kasa_parser.proofs.reader.Reader.agents.Given as goal
 
-abbrev pub invariant-loop-name : goal.invariant-loop-name
-invariant-loop-name l = items_from Complex fresh l.fn.self ≡ items_behind Complex l.comma (as_items l.agents.items) l.self
+abbrev pub invariant-loop-alloc : goal.invariant-loop-alloc
+invariant-loop-alloc l = (listed_some (only (Name ∷ [])) an_agent).read l.fn.self ≡ with_more (only (Name ∷ [])) (an_agent) l.agents.items l.self
 
-abbrev pub decreases-loop-name : goal.decreases-loop-name
-decreases-loop-name l = length l.self
+abbrev pub decreases-loop-alloc : goal.decreases-loop-alloc
+decreases-loop-alloc l = length l.self

@@ -1,9 +1,12 @@
-use Rattle.std.proofs.Common.{length}
-use Rattle.kasa_parser.specs.Reading.{DeclsGo}
+use Rattle.std.proofs.Common.{◌≡◌, ◌∷◌, [], length}
+use Rattle.kasa_syntax.specs.declared.tokens.TokenKind.TheVariants.{Name}
+use Rattle.kasa_parser.specs.Words.{only}
+use Rattle.kasa_parser.specs.Decls.{site_decl, site_decls}
+use Rattle.kasa_parser.proofs.Loops.{with_more}
 use Rattle.kasa_parser.proofs.reader.Reader.site_decls.Given as goal
 
-abbrev pub invariant-loop-closed : goal.invariant-loop-closed
-invariant-loop-closed l = DeclsGo l.closed l.fn.self l.sites.items l.self
+abbrev pub invariant-loop-alloc : goal.invariant-loop-alloc
+invariant-loop-alloc l = (site_decls).read l.fn.self ≡ with_more (only (Name ∷ [])) (site_decl) l.sites.items l.self
 
-abbrev pub decreases-loop-closed : goal.decreases-loop-closed
-decreases-loop-closed l = length l.self
+abbrev pub decreases-loop-alloc : goal.decreases-loop-alloc
+decreases-loop-alloc l = length l.self

@@ -1,12 +1,12 @@
-use Rattle.std.proofs.Common.{◌≤◌, length}
-use Rattle.kasa_parser.specs.Reading.{SitesGo}
+use Rattle.std.proofs.Common.{◌≡◌, ◌∷◌, [], length}
+use Rattle.kasa_syntax.specs.declared.tokens.TokenKind.TheVariants.{Name}
+use Rattle.kasa_parser.specs.Words.{only}
+use Rattle.kasa_parser.specs.Grammar.{site, sites}
+use Rattle.kasa_parser.proofs.Loops.{with_more}
 use Rattle.kasa_parser.proofs.reader.Reader.sites.Given as goal
 
-abbrev pub invariant-loop-closed : goal.invariant-loop-closed
-invariant-loop-closed l = record {
-  same : SitesGo l.within l.closed l.fn.self l.sites.items l.self;
-  fewer : length l.self ≤ length l.fn.self;
-}
+abbrev pub invariant-loop-self : goal.invariant-loop-self
+invariant-loop-self l = (sites l.fn.edit).read l.fn.self ≡ with_more (only (Name ∷ [])) (site l.fn.edit) l.sites.items l.self
 
-abbrev pub decreases-loop-closed : goal.decreases-loop-closed
-decreases-loop-closed l = length l.self
+abbrev pub decreases-loop-self : goal.decreases-loop-self
+decreases-loop-self l = length l.self

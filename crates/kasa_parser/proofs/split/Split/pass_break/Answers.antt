@@ -1,6 +1,6 @@
 use Rattle.std.proofs.Common.{◌≡◌, ◌++◌, false, ap, rules}
 use Rattle.kasa_parser.specs.Words.{words_of}
-use Rattle.kasa_parser.specs.Reader.{is_none}
+use Rattle.kasa_parser.specs.Steps.{is_none}
 use Rattle.kasa_parser.specs.Split.{given_of}
 use Rattle.kasa_parser.proofs.SplitLemmas.{break_kept}
 use Rattle.kasa_parser.proofs.split.Split.pass_break.Goals as goal

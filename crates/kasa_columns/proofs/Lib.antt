@@ -1,0 +1,13 @@
+pub mod SiteLemmas
+pub mod Places
+pub mod Zips
+pub mod ShapeTests
+pub mod Created
+pub mod Outcomes
+pub mod Forward
+pub mod Rows
+pub mod AnyLocal
+pub mod ViewChoice
+pub mod Choices
+pub mod Along
+pub mod FreedColumns

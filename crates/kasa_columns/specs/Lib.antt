@@ -1,0 +1,4 @@
+pub mod Comes
+pub mod Forward
+pub mod Choices
+pub mod Along
