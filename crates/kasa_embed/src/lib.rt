@@ -7,6 +7,3 @@ mod search;
 
 pub use cells::Cells;
 pub use search::embeddings;
-
-#[cfg(test)]
-mod tests;

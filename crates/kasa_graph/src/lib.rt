@@ -15,10 +15,3 @@ pub use pattern::{LinkTest, Node, NodeSites, Pattern, SiteTests, StateTest};
 pub use refine::{Test, implies, meet};
 pub use signature::{Signature, is_name};
 pub use text::write_pattern;
-
-#[cfg(test)]
-mod described;
-#[cfg(test)]
-mod tests;
-#[cfg(test)]
-mod text_tests;

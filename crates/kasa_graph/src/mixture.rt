@@ -340,13 +340,3 @@ impl Mixture {
         remove_agent(&mut self.cells, cell as usize);
     }
 }
-
-#[cfg(test)]
-impl Mixture {
-    // A living cell has the site.
-    pub(crate) fn has_site(&self, cell: u32, site: SiteNo) -> bool
-        ensures { IsTrue result → HasAgentSite self.now cell site }
-    {
-        site_at(&self.cells, cell as usize, site.0 as usize).is_some()
-    }
-}
