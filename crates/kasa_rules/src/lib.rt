@@ -12,6 +12,3 @@ pub use rule::{
     End, Fate, MadeAgent, MadeSite, MadeSites, NodeAction, Rule, SiteAction, SiteActions, Written,
     touched,
 };
-
-#[cfg(test)]
-mod tests;
