@@ -13,6 +13,3 @@ pub use shelf::{FetchFault, Shelf};
 pub use shelf_mem::ShelfMem;
 pub use sink::{Failed, Sink};
 pub use sink_mem::SinkMem;
-
-#[cfg(test)]
-mod tests;
