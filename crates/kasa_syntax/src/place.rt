@@ -24,24 +24,3 @@ pub fn place_of(text: &[u8], offset: u32) -> Place
     }
     Place { line, column }
 }
-
-#[cfg(test)]
-mod tests {
-    use super::*;
-
-    #[test]
-    fn lines_and_columns_count_bytes_from_1(rt: HostRuntime) {
-        let text = b"\xEF\xBB\xBFA(x)\r\n\nB()";
-        for (offset, line, column) in [
-            (0, 1, 1),
-            (3, 1, 4),
-            (8, 1, 9),
-            (9, 2, 1),
-            (10, 3, 1),
-            (13, 3, 4),
-        ] {
-            let place = place_of(text, offset);
-            assert!(rt; place == Place { line, column }, "at {offset}");
-        }
-    }
-}
