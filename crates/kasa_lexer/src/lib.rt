@@ -34,6 +34,3 @@ pub enum LexFault {
     #[error("the name is too long")]
     LongName(Place),
 }
-
-#[cfg(test)]
-mod tests;
