@@ -10,6 +10,3 @@ mod used;
 
 pub use builder::build;
 pub use fault::SigFault;
-
-#[cfg(test)]
-mod tests;
