@@ -1,0 +1,157 @@
+"""Fires the rules of worked models at random and looks whether each row that occurs is printed.
+
+    fire.py KASA MODEL FIRINGS
+
+The rules are written here by hand, beside the texts of the models: a left pattern as the text of its nodes, and what is done
+to its agents in order. A site that is freed or deleted frees its partner, whatever agent that is.
+"""
+
+import itertools
+import random
+import re
+import subprocess
+import sys
+
+HUB, CART = {"port": None, "lock": "open"}, {"nose": None, "load": "empty"}
+
+DOCK = [("bind", 0, "port", 1, "nose")]
+MODELS = {
+    "scrap": (
+        [("Hub", HUB), ("Cart", {"nose": None})] * 10,
+        [
+            ("Hub(port[.],lock{open}) Cart(nose[.])", DOCK),
+            ("Hub(port[_],lock{open})", [("state", 0, "lock", "shut")]),
+            ("Hub(lock{shut})", [("state", 0, "lock", "open")]),
+            ("Cart()", [("delete", 0)]),
+        ],
+    ),
+    "cut": ([("Hub", {"port": None}), ("Cart", {"nose": None})] * 10, [("Hub(port[_])", [("free", 0, "port")])]),
+    "load": (
+        [("Hub", HUB), ("Cart", CART)] * 10,
+        [
+            ("Hub(port[.]) Cart(nose[.])", DOCK),
+            ("Hub(port[_],lock{open})", [("state", 0, "lock", "shut")]),
+            ("Hub(port[1],lock{shut}) Cart(nose[1],load{empty})", [("state", 1, "load", "full")]),
+            ("Hub(port[1],lock{shut}) Cart(nose[1],load{full})", [("state", 1, "load", "empty")]),
+            ("Hub(port[1],lock{shut}) Cart(nose[1],load{empty})", [("state", 0, "lock", "open")]),
+            ("Hub(port[1],lock{open}) Cart(nose[1],load{full})", [("state", 1, "load", "empty")]),
+        ],
+    ),
+    "make": (
+        [("Hub", {"port": None})] * 20,
+        [
+            ("Hub(port[.])", [("make", "Cart", {**CART, "load": "full"})] + DOCK),
+            ("Hub(port[_])", [("make", "Cart", {**CART, "load": "full"}), ("make", "Cart", CART), ("bind", 1, "nose", 2, "nose")]),
+            ("Hub(port[_])", [("free", 0, "port")]),
+        ],
+    ),
+    "beam": (
+        [("Beam", {"l": None, "r": None}), ("Cart", {"hook": None}), ("Cart", {"hook": None})] * 5,
+        [("Cart() Cart()", [("delete", 0), ("delete", 1)])],
+    ),
+}
+# The bonds that are there at first, of each copy of the complex.
+BONDS = {"cut": [(0, "port", 1, "nose")], "beam": [(0, "l", 1, "hook"), (0, "r", 2, "hook")]}
+
+
+class Agent:
+    def __init__(self, kind, states):
+        self.kind, self.states, self.links = kind, dict(states), {}
+
+
+def free(agent, site):
+    if site in agent.links:
+        other, there = agent.links.pop(site)
+        other.links.pop(there, None)
+
+
+def bind(one, site, other, there):
+    free(one, site)
+    free(other, there)
+    one.links[site], other.links[there] = (other, there), (one, site)
+
+
+def is_embedding(left, agents):
+    ends = {}
+    for (kind, tests), agent in zip(left, agents):
+        if kind != agent.kind:
+            return False
+        for site, state, link in tests:
+            if state and agent.states[site] != state:
+                return False
+            if link == "." and site in agent.links or link == "_" and site not in agent.links:
+                return False
+            if link and link.isdigit():
+                ends.setdefault(link, []).append((agent, site))
+    return all(one[0].links.get(one[1]) == other for one, other in ends.values())
+
+
+def fire(mixture, agents, steps):
+    agents = list(agents)
+    for step, *rest in steps:
+        if step == "make":
+            agents.append(Agent(*rest))
+            mixture.append(agents[-1])
+        elif step == "state":
+            agents[rest[0]].states[rest[1]] = rest[2]
+        elif step == "bind":
+            bind(agents[rest[0]], rest[1], agents[rest[2]], rest[3])
+        elif step == "free":
+            free(agents[rest[0]], rest[1])
+        else:
+            for site in list(agents[rest[0]].links):
+                free(agents[rest[0]], site)
+            mixture.remove(agents[rest[0]])
+
+
+def nodes(text):
+    """A left pattern as types with tests, each a site, a state or nothing, and a link or nothing."""
+    return [(k, re.findall(r"(\w+)(?:\{(\w+)\})?(?:\[([^\]]+)\])?", s)) for k, s in re.findall(r"(\w+)\(([^)]*)\)", text)]
+
+
+def show(agent, sites):
+    parts = []
+    for site in sites:
+        link = agent.links.get(site)
+        state = "{%s}" % agent.states[site] if agent.states[site] else ""
+        parts.append(f"{site}{state}[{link[1] + '.' + link[0].kind if link else '.'}]")
+    return f"  {agent.kind}({','.join(parts)})"
+
+
+def views(report):
+    """The printed views: a type, its sites and its rows."""
+    blocks = re.findall(r"^ (\w+)\(\)\n((?:  .*\n)+)", report, re.M)
+    return [(kind, re.findall(r"(\w+)(?:\{\w+\})?\[", rows.split("\n")[0]), set(rows.splitlines())) for kind, rows in blocks]
+
+
+def main():
+    kasa, name, firings = sys.argv[1], sys.argv[2], int(sys.argv[3])
+    report = subprocess.run([kasa, "analyse", name + ".ka"], stdout=subprocess.PIPE).stdout.decode()
+    printed, choose, fired, seen = views(report), random.Random(1), set(), set()
+    agents, rules = MODELS[name]
+    mixture = [Agent(*it) for it in agents]
+    bonds = BONDS.get(name, [])
+    size = 3 if name == "beam" else 2
+    for first in range(0, len(mixture), size):
+        for one, site, other, there in bonds:
+            bind(mixture[first + one], site, mixture[first + other], there)
+    done = 0
+    for done in range(1, firings + 1):
+        number, (left, steps) = choose.choice(list(enumerate(rules, 1)))
+        left = nodes(left)
+        places = [it for it in itertools.permutations(mixture, len(left)) if is_embedding(left, it)]
+        if places:
+            fired.add(number)
+            fire(mixture, choose.choice(places), steps)
+        for kind, sites, rows in printed:
+            shown = {show(agent, sites) for agent in mixture if agent.kind == kind}
+            seen |= shown
+            if not shown <= rows:
+                print("not printed:", sorted(shown - rows))
+                return
+    rows = sum(len(rows) for _, _, rows in printed)
+    print(f"{name}: rules {' '.join(map(str, sorted(fired)))} fired, {len(seen)} of {rows} rows were seen")
+
+
+if __name__ == "__main__":
+    main()
