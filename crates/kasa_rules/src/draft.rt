@@ -231,7 +231,7 @@ impl RuleDraft {
     fn touches(&self, node: NodeNo, site: SiteNo) -> bool
         ensures { result ≡ touched self.now node site }
     {
-        is_touched(&self.actions, node, site)
+        is_touched(&self.actions, node, site.0 as usize)
     }
 
     fn is_half(&self, node: NodeNo, site: SiteNo) -> bool

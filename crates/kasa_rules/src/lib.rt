@@ -10,5 +10,5 @@ pub use draft::RuleDraft;
 pub use model::{Inits, Model, Rules};
 pub use rule::{
     End, Fate, MadeAgent, MadeSite, MadeSites, NodeAction, Rule, SiteAction, SiteActions, Written,
-    touched,
+    touched, touched_at,
 };

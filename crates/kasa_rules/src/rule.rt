@@ -294,14 +294,14 @@ fn find_action(actions: &[NodeAction], node: NodeNo, site: SiteNo) -> Option<Sit
 }
 
 // Whether a site of a left node is touched.
-pub(crate) fn is_touched(actions: &[NodeAction], node: NodeNo, site: SiteNo) -> bool
+pub(crate) fn is_touched(actions: &[NodeAction], node: NodeNo, site: usize) -> bool
     ensures { result ≡ touches (option_map (λ a. a.fate) (slice_get actions.now node)) (option_and_then (λ x. x.link) (option_and_then (λ a. slice_get a.sites site) (slice_get actions.now node))) }
 {
     match actions.get(node.0 as usize) {
         None => false,
         Some(action) => match action.fate {
             Fate::Deleted => true,
-            Fate::Kept => action.sites.has_link(site.0 as usize),
+            Fate::Kept => action.sites.has_link(site),
         },
     }
 }
@@ -388,6 +388,13 @@ impl Rule {
 /// Whether a site of the left pattern is touched: its node is deleted, or its link is written. It takes no memory.
 pub fn touched(rule: &Rule, node: NodeNo, site: SiteNo) -> bool
     requires { HasNodeSite rule.now.left node site }
+    ensures { result ≡ touched rule.now node site }
+{
+    touched_at(rule, node, site.0 as usize)
+}
+
+/// The same at the site of a number, however many sites the node has. It takes no memory.
+pub fn touched_at(rule: &Rule, node: NodeNo, site: usize) -> bool
     ensures { result ≡ touched rule.now node site }
 {
     is_touched(&rule.actions, node, site)

@@ -1,5 +1,5 @@
 use Rattle.kasa_rules.specs.Rule.{fate_at, action_at, written_link, touched}
-use Rattle.kasa_rules.proofs.rule.touched.Goals as goal
+use Rattle.kasa_rules.proofs.rule.touched_at.Goals as goal
 
 pub returns : goal.returns
 unfolding fate_at action_at written_link touched
