@@ -59,8 +59,8 @@ fn columns_agree(g: &Pattern, family: &Family, spot: &Spot, locals: &[Local]) ->
     true
 }
 
-// There is such a column, and the local state doesn't contradict g there.
-fn agrees_at(g: &Pattern, family: &Family, spot: &Spot, k: usize, local: Local) -> bool
+/// Whether there is such a column, and the local state doesn't contradict g there. It takes no memory.
+pub fn agrees_at(g: &Pattern, family: &Family, spot: &Spot, k: usize, local: Local) -> bool
     requires stands { StandsAt g.now family.now (place_of g.now family.now spot.now) }
     requires named { HasNamedSites g.now family.now }
     ensures { IsTrue result ↔ Nth (shape_of family.now).columns k (λ s. Nth (place_of g.now family.now spot.now) s.node (λ n. LocalAgrees g.now n s.site local)) }

@@ -15,7 +15,7 @@ mod shape;
 mod tests;
 mod valid;
 
-pub use compatible::{Spot, is_compatible};
+pub use compatible::{Spot, agrees_at, is_compatible};
 pub use family::{Family, Sites};
 pub use first::{first_among, first_type};
 pub use patterns::{pattern, root};
