@@ -6,8 +6,6 @@ mod compile;
 mod complex;
 mod fault;
 mod half;
-#[cfg(test)]
-mod joint_tests;
 mod joints;
 mod labels;
 mod names;
@@ -17,8 +15,6 @@ mod rule;
 mod said;
 mod sides;
 mod stands;
-#[cfg(test)]
-mod tests;
 mod tried;
 mod words;
 
