@@ -28,9 +28,9 @@ use Rattle.kasa_rules.proofs.DraftLemmas.{written_state-deleted, written_link-de
 use Rattle.kasa_rules.proofs.ReadyLemmas.{IsUnwritten-new}
 use Rattle.kasa_compile.specs.declared.said.AgentSaid.{AgentSaid}
 use Rattle.kasa_compile.specs.Sides.{SidesParts}
-use Rattle.kasa_compile.specs.Rule.{fate_of, end_at}
+use Rattle.kasa_compile.specs.Rule.{fate_of, end_at, type_on_right}
 use Rattle.kasa_compile.specs.Valid.{AreSides}
-use Rattle.kasa_compile.specs.Building.{state_now, state_open, first_of_right, link_due, type_on_right, IsFresh, IsBare, CanWrite, AwaitsLink, AreAwaiting}
+use Rattle.kasa_compile.specs.Building.{state_now, state_open, first_of_right, link_due, IsFresh, IsBare, CanWrite, AwaitsLink, AreAwaiting}
 
 -- ---- fates
 

@@ -31,11 +31,12 @@ use Rattle.kasa_compile.specs.declared.said.AgentSaid.{AgentSaid}
 use Rattle.kasa_compile.specs.Sides.{SidesParts}
 use Rattle.kasa_compile.specs.Bonds.{said_at, joined_to}
 use Rattle.kasa_compile.specs.Complex.{state_given}
-use Rattle.kasa_compile.specs.Rule.{link_asked, left_state_test, left_link_test, state_written_by, link_written_by, link_made_by, end_at, IsRuleOf}
+use Rattle.kasa_compile.specs.Rule.{link_asked, left_state_test, left_link_test, state_written_by, link_written_by, link_made_by, end_at}
 use Rattle.kasa_compile.specs.Building.{Says, right_of, state_now, state_open, state_due, link_due, IsBare, CanWrite, IsLater, HasLink, IsDone}
 use Rattle.kasa_compile.proofs.SaidAtLemmas.{said_at-found}
 use Rattle.kasa_compile.proofs.DueLemmas.{right_of-there, due_mutual}
 use Rattle.kasa_compile.proofs.StepLemmas.{end_before-or}
+use Rattle.kasa_compile.proofs.RuleRead.{IsRuleOf}
 
 made_of_end : (r : RuleParts) (j s : ℕ) (w : Written) → end_link r (Made j) s ≡ Some w → made_link r j s ≡ w
 unfolding made_link

@@ -5,13 +5,13 @@ use Rattle.std.specs.Option.{option_map_or}
 use Rattle.std.proofs.lemmas.Bool.Decides.{eqb_tells}
 use Rattle.std.proofs.lemmas.Grind.{flat_map-append}
 use Rattle.std.proofs.lemmas.List.{take_more, take_all, length-take-le}
-use Rattle.kasa_compile.specs.declared.joints.Ends.{Ends}
+use Rattle.kasa_compile.specs.declared.bonds.Ends.{Ends}
 use Rattle.kasa_compile.specs.declared.said.LinkSaid.{LinkSaid}
 use Rattle.kasa_compile.specs.declared.said.LinkSaid.TheVariants.{Any, Free, Bound, Partner, Label}
 use Rattle.kasa_compile.specs.declared.said.AgentSaid.{AgentSaid}
 use Rattle.kasa_compile.specs.declared.said.SiteSaid.{SiteSaid}
 use Rattle.kasa_compile.specs.Bonds.{has_label, labelled, labelled_from, places_of}
-use Rattle.kasa_compile.specs.Joints.{ends_at, last_of, ends_of, IsContinued, label_of, one_place, AreJointsOf}
+use Rattle.kasa_compile.specs.BondIndex.{ends_at, last_of, ends_of, IsContinued, label_of, one_place, AreBondsOf}
 
 append_none : {X : Type 0} (xs : List X) → xs ++ [] ≡ xs
 append_none [] = refl
@@ -91,11 +91,11 @@ unfolding places_of
 places_of-next number i agents a within at = rw (take_more agents i a within, ← at) (sym (labelled_from-push 0 i number (take i agents) a (length-take_within agents i within)))
 
 -- an index of all labels finds those that stand twice
-pub AreJointsOf-of : (agents : List AgentSaid) (joints : List (ℕ × Ends)) → ((number : ℕ) → ends_at joints number ≡ ends_of (places_of number agents)) → AreJointsOf agents joints
+pub AreBondsOf-of : (agents : List AgentSaid) (bonds : List (ℕ × Ends)) → ((number : ℕ) → ends_at bonds number ≡ ends_of (places_of number agents)) → AreBondsOf agents bonds
 unfolding ends_of
-AreJointsOf-of agents joints all number twice = by (places_of number agents) (all number) twice
+AreBondsOf-of agents bonds all number twice = by (places_of number agents) (all number) twice
   where
-    by : (places : List (ℕ × ℕ)) → ends_at joints number ≡ ends_of places → length places ≡ 2 → (e : Ends) × (ends_at joints number ≡ Some e) × (places ≡ e.first ∷ e.last ∷ [])
+    by : (places : List (ℕ × ℕ)) → ends_at bonds number ≡ ends_of places → length places ≡ 2 → (e : Ends) × (ends_at bonds number ≡ Some e) × (places ≡ e.first ∷ e.last ∷ [])
     by [] is two = absurd cc
     by (p ∷ []) is two = absurd (omega arith)
     by (p ∷ q ∷ []) is two = (record { first = p; last = q }, is, refl)

@@ -13,9 +13,10 @@ use Rattle.kasa_compile.specs.declared.said.LinkSaid.TheVariants.{Any, Free, Bou
 use Rattle.kasa_compile.specs.declared.said.SiteSaid.{SiteSaid}
 use Rattle.kasa_compile.specs.declared.said.AgentSaid.{AgentSaid}
 use Rattle.kasa_compile.specs.Bonds.{said_at, places_of, joined_to}
-use Rattle.kasa_compile.specs.Complex.{joined_by, partner_given, IsComplexOf}
+use Rattle.kasa_compile.specs.Complex.{joined_by, partner_given}
+use Rattle.kasa_compile.proofs.ComplexRead.{IsComplexOf}
 use Rattle.kasa_compile.specs.Valid.{AreSaid, AreJoined}
-use Rattle.kasa_compile.specs.Joints.{label_of}
+use Rattle.kasa_compile.specs.BondIndex.{label_of}
 use Rattle.kasa_compile.specs.Cells.{AreUnjoined, bonded, bonded_if_free, HasMoreBonds, IsJoining, AreNamedOnce, IsJoinedAt, AreSitesJoined, AreAgentsJoined}
 use Rattle.kasa_compile.proofs.SaidAtLemmas.{said_at-of, said_at-found}
 use Rattle.kasa_compile.proofs.StateLemmas.{type_in-with_joined, state_in-with_joined}

@@ -9,6 +9,9 @@ pub mod ValidLemmas
 pub mod IndexLemmas
 pub mod StateLemmas
 pub mod SaidAtLemmas
+pub mod PlaceLemmas
+pub mod ComplexRead
+pub mod RuleRead
 pub mod UnjoinedLemmas
 pub mod JoiningLemmas
 pub mod TouchedLemmas
@@ -25,7 +28,7 @@ pub mod FinalLemmas
 pub mod FirstLemmas
 pub mod KnownLemmas
 pub mod TwiceLemmas
-pub mod LimitLemmas
-pub mod TallyLemmas
+pub mod CountLemmas
 pub mod FaultlessLemmas
 pub mod CompiledLemmas
+pub mod OneOutcome

@@ -24,21 +24,23 @@ use Rattle.kasa_syntax.specs.declared.agents.AgentText.{AgentText}
 use Rattle.kasa_sig.specs.Mentions.{word}
 use Rattle.kasa_sig.specs.Outcome.{number_of}
 use Rattle.kasa_sig.proofs.NumberLemmas.{number_of-at, has_number}
-use Rattle.kasa_compile.specs.declared.pairs.Side.{Side}
-use Rattle.kasa_compile.specs.declared.pairs.Side.TheVariants.{Left, Right}
+use Rattle.kasa_compile.specs.declared.resolved.Side.{Side}
+use Rattle.kasa_compile.specs.declared.resolved.Side.TheVariants.{Left, Right}
 use Rattle.kasa_compile.specs.declared.said.LinkSaid.TheVariants as said
 use Rattle.kasa_compile.specs.declared.said.SiteSaid.{SiteSaid}
 use Rattle.kasa_compile.specs.declared.said.AgentSaid.{AgentSaid}
 use Rattle.kasa_compile.specs.Names.{number, type_number, site_number, state_number, if_unknown, if_known, in_braces, in_brackets, unknown_state, unknown_partner_site, unknown_types, unknown_sites, unknown_sites_at, unknown_states, unknown_states_at, names_of, twice_behind, sites_twice}
-use Rattle.kasa_compile.specs.Said.{state_said, link_said, left_site, right_site, left_agent, right_agent}
-use Rattle.kasa_compile.specs.Sided.{state_word, link_word, site_on, agent_on, plain_agent}
+use Rattle.kasa_compile.specs.Said.{state_said, link_said, state_word, link_word, site_on, agent_on}
 use Rattle.kasa_compile.specs.Valid.{IsSiteSaid, IsSaid, AreSaid}
 use Rattle.kasa_compile.proofs.PairLemmas.{no_left, no_right}
 
+-- an agent on a side, without opening what it says
+abbrev pub plain_agent : Side → List ℕ → List TypeEntry → AgentText → AgentSaid
+plain_agent side text sig a = record { «at» = a.name.start; agent = type_number text sig a.name; sites = map (site_on side text sig (type_number text sig a.name)) a.sites }
+
 pub agent_on-plain : (side : Side) (text : List ℕ) (sig : List TypeEntry) (a : AgentText) → agent_on side text sig a ≡ plain_agent side text sig a
-unfolding left_agent right_agent left_site right_site
-agent_on-plain Left text sig a = refl
-agent_on-plain Right text sig a = refl
+unfolding agent_on
+agent_on-plain side text sig a = refl
 
 -- ---- each element gives nothing
 
@@ -182,8 +184,8 @@ module _ (text : List ℕ) (sig : List TypeEntry) where
         differ = subst (λ (ns : List ℕ). AllDifferent ns) (numbers_of side n a.sites) (numbers_differ n a.sites f h);
       }
 
-  pub AreSaid-on : (side : Side) (agents : List AgentText) → flat_map (unknown_types text sig) agents ≡ [] → flat_map (unknown_sites text sig) agents ≡ [] → flat_map (unknown_states text sig) agents ≡ [] → flat_map (sites_twice text) agents ≡ [] → AreSaid sig (map (plain_agent side text sig) agents)
+  pub AreSaid-on : (side : Side) (agents : List AgentText) → flat_map (unknown_types text sig) agents ≡ [] → flat_map (unknown_sites text sig) agents ≡ [] → flat_map (unknown_states text sig) agents ≡ [] → flat_map (sites_twice text) agents ≡ [] → AreSaid sig (map (agent_on side text sig) agents)
   AreSaid-on side agents e f g h k a at =
-      let t = mapped_from (plain_agent side text sig) agents k a at in
-      subst (λ (x : AgentSaid). IsSaid sig x) t.2
+      let t = mapped_from (agent_on side text sig) agents k a at in
+      subst (λ (x : AgentSaid). IsSaid sig x) (sym (agent_on-plain side text sig t.0) ∙ t.2)
       (IsSaid-on side t.0 (each_none (unknown_types text sig) agents k t.0 e t.1) (each_none (unknown_sites text sig) agents k t.0 f t.1) (each_none (unknown_states text sig) agents k t.0 g t.1) (each_none (sites_twice text) agents k t.0 h t.1))

@@ -1,5 +1,5 @@
 -- The sites that labels join, on one side of a rule or in a complex.
-use Rattle.std.specs.Prelude.{ℕ, suc, Bool, true, false, ◌&&◌, List, [], ◌∷◌, ◌++◌, Option, Some, None, nat_eq, if◌then◌else◌}
+use Rattle.std.specs.Prelude.{ℕ, suc, Bool, false, ◌&&◌, List, [], ◌∷◌, ◌++◌, Option, Some, None, nat_eq, if◌then◌else◌}
 use Rattle.std.specs.List.{flat_map}
 use Rattle.kasa_compile.specs.declared.said.LinkSaid.{LinkSaid}
 use Rattle.kasa_compile.specs.declared.said.LinkSaid.TheVariants.{Label}

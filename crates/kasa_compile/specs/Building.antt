@@ -24,7 +24,7 @@ use Rattle.kasa_rules.specs.declared.rule.MadeAgent.{MadeAgent}
 use Rattle.kasa_compile.specs.Sides.{SidesParts}
 use Rattle.kasa_compile.specs.Complex.{state_given}
 use Rattle.kasa_compile.specs.Bonds.{said_at, places_of, joined_to}
-use Rattle.kasa_compile.specs.Rule.{left_state_test, left_link_test, is_state, state_written_by, link_to_write, link_written_by, link_to_make, link_made_by, end_at, fate_of}
+use Rattle.kasa_compile.specs.Rule.{left_state_test, left_link_test, is_state, state_written_by, link_to_write, link_written_by, link_to_make, link_made_by, end_at, fate_of, type_on_right}
 
 -- the i-th site that the n-th agent names
 pub record Says (agents : List AgentSaid) (n i : ℕ) (s : SiteSaid) : Type 0 where
@@ -222,9 +222,6 @@ abbrev pub AreAwaiting : SidesParts → List Node → RuleParts → ℕ → ℕ 
 AreAwaiting x g r k i = (l j : ℕ) (s : SiteSaid) → ((k < l) ⊎ ((k ≡ l) × (i ≤ j))) → Says x.right l j s → AwaitsLink r (end_at x.ends l) s.site (link_due x g (end_at x.ends l) s.site)
 
 -- ---- a draft in which nothing is written yet
-
-abbrev pub type_on_right : SidesParts → ℕ → ℕ
-type_on_right x k = option_map_or (λ (b : AgentSaid). b.agent) (slice_get x.right k) 0
 
 abbrev pub made_agents : List TypeEntry → SidesParts → List ℕ → List MadeAgent
 made_agents sig x numbers = map (λ k. new_agent sig (type_on_right x k)) numbers

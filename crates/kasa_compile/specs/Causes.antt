@@ -1,5 +1,5 @@
 -- The causes for which an init or a rule is refused, each with the offsets where it comes, in text order.
-use Rattle.std.specs.Prelude.{ℕ, suc, Bool, true, false, ◌++◌, ◌&&◌, ◌||◌, not, List, [], ◌∷◌, Option, Some, None, map, drop, nat_eq, nat_le, is_some, slice_get, codes, take, ◌-◌, ◌+◌, if◌then◌else◌}
+use Rattle.std.specs.Prelude.{ℕ, Bool, true, false, ◌++◌, ◌&&◌, ◌||◌, not, List, [], ◌∷◌, Option, Some, None, option_map, nat_eq, nat_le, is_some, slice_get, if◌then◌else◌}
 use Rattle.std.specs.List.{flat_map}
 use Rattle.std.specs.Option.{option_map_or}
 use Rattle.kasa_num.specs.declared.Place.{Place}
@@ -14,8 +14,8 @@ use Rattle.kasa_syntax.specs.declared.decls.InitDecl.{InitDecl}
 use Rattle.kasa_syntax.specs.declared.decls.RuleText.{RuleText}
 use Rattle.kasa_syntax.specs.declared.decls.Form.{Form}
 use Rattle.kasa_syntax.specs.declared.decls.Form.TheVariants.{Edit, Arrow}
-use Rattle.kasa_rules.specs.declared.rule.Written.{Written}
-use Rattle.kasa_compile.specs.declared.stands.Stands.TheVariants.{ByMark, OnLeft, OnRight}
+use Rattle.kasa_compile.specs.declared.resolved.Side.{Side}
+use Rattle.kasa_compile.specs.declared.resolved.Side.TheVariants.{Left, Right}
 use Rattle.kasa_compile.specs.declared.said.LinkSaid.{LinkSaid}
 use Rattle.kasa_compile.specs.declared.said.LinkSaid.TheVariants as said
 use Rattle.kasa_compile.specs.declared.said.SiteSaid.{SiteSaid}
@@ -24,8 +24,8 @@ use Rattle.kasa_compile.specs.declared.said.Pair.{Pair}
 use Rattle.kasa_compile.specs.declared.fault.CompileFault.{CompileFault}
 use Rattle.kasa_compile.specs.declared.fault.CompileFault.TheVariants.{UnknownType, UnknownSite, UnknownState, SiteTwice, LabelNotTwice, TypeMismatch, HalfBond, BadRight, PartialInit, TooManyNodes, TooManyRules, TooManyInits}
 use Rattle.kasa_compile.specs.Names.{unknown_types, unknown_sites, unknown_states, sites_twice}
-use Rattle.kasa_compile.specs.Labels.{agents_of, left_labels, all_left_labels, all_right_labels, labels_not_twice}
-use Rattle.kasa_compile.specs.Limits.{past_limit, partial_sites}
+use Rattle.kasa_compile.specs.Labels.{agents_of, agents_on, behind, labels_on, odd_labels}
+use Rattle.kasa_compile.specs.Partial.{partial_sites}
 use Rattle.kasa_compile.specs.Said.{pairs_of, turned}
 use Rattle.kasa_compile.specs.Sides.{SidesParts, sides_of}
 use Rattle.kasa_compile.specs.Bonds.{said_at, joined_to}
@@ -33,19 +33,54 @@ use Rattle.kasa_compile.specs.Rule.{left_link_test, link_written_by}
 
 -- ---- causes
 
--- a cause, and where it comes
+-- a cause, and the offset of its first place, where it comes
 pub record Cause : Type 0 where
   pub fault : Place → CompileFault
-  pub offsets : List ℕ
+  pub first : Option ℕ
+
+abbrev pub or_else : Option CompileFault → Option CompileFault → Option CompileFault
+or_else (Some fault) later = Some fault
+or_else None later = later
 
 -- the first cause that comes, at its first place
-abbrev pub at_first : List ℕ → (Place → CompileFault) → List ℕ → Option CompileFault → Option CompileFault
-at_first text fault [] later = later
-at_first text fault (o ∷ offsets) later = Some (fault (place_at text o))
-
 unfoldable pub first_of : List ℕ → List Cause → Option CompileFault
 first_of text [] = None
-first_of text (c ∷ causes) = at_first text c.fault c.offsets (first_of text causes)
+first_of text (c ∷ causes) = or_else (option_map (λ o. c.fault (place_at text o)) c.first) (first_of text causes)
+
+-- the first one of some offsets in text order, and the lesser one of two
+abbrev pub head : List ℕ → Option ℕ
+head offsets = slice_get offsets 0
+
+abbrev pub lesser : Option ℕ → Option ℕ → Option ℕ
+lesser None o = o
+lesser (Some m) None = Some m
+lesser (Some m) (Some n) = if nat_le m n then Some m else Some n
+
+-- ---- names
+
+abbrev pub name_causes : List ℕ → List TypeEntry → List AgentText → List Cause
+name_causes text sig agents =
+    record { fault = UnknownType; first = head (flat_map (unknown_types text sig) agents) }
+    ∷ record { fault = UnknownSite; first = head (flat_map (unknown_sites text sig) agents) }
+    ∷ record { fault = UnknownState; first = head (flat_map (unknown_states text sig) agents) }
+    ∷ record { fault = SiteTwice; first = head (flat_map (sites_twice text) agents) }
+    ∷ []
+
+-- ---- labels, and agents beyond a limit, of a side
+
+abbrev pub odd_on : Side → List AgentText → Option ℕ
+odd_on side agents = head (odd_labels (labels_on side agents))
+
+-- of a rule, on either side
+abbrev pub odd_in : Form → Option ℕ
+odd_in form = lesser (odd_on Left (agents_on Left form)) (odd_on Right (agents_on Right form))
+
+abbrev pub thirteenth : Form → Option ℕ
+thirteenth form = lesser (behind 12 (agents_on Left form)) (behind 12 (agents_on Right form))
+
+abbrev pub if_past : Bool → ℕ → Option ℕ
+if_past true start = Some start
+if_past false start = None
 
 -- ---- what belongs together has one type
 
@@ -124,22 +159,16 @@ bad_rights pairs = flat_map (λ (p : Pair). bad_right p.left p.right) pairs
 
 -- ---- inits
 
-abbrev pub if_past : Bool → ℕ → List ℕ
-if_past true start = start ∷ []
-if_past false start = []
+abbrev pub complex_causes : List AgentText → List Cause
+complex_causes agents =
+    record { fault = LabelNotTwice; first = odd_on Left agents }
+    ∷ record { fault = PartialInit; first = head (flat_map partial_sites agents) }
+    ∷ record { fault = TooManyNodes; first = behind 200 agents }
+    ∷ []
 
 -- the causes of an init before which so many stand
 abbrev pub init_causes : List ℕ → List TypeEntry → ℕ → InitDecl → List Cause
-init_causes text sig count d =
-    record { fault = UnknownType; offsets = flat_map (unknown_types text sig) d.agents }
-    ∷ record { fault = UnknownSite; offsets = flat_map (unknown_sites text sig) d.agents }
-    ∷ record { fault = UnknownState; offsets = flat_map (unknown_states text sig) d.agents }
-    ∷ record { fault = SiteTwice; offsets = flat_map (sites_twice text) d.agents }
-    ∷ record { fault = LabelNotTwice; offsets = flat_map (labels_not_twice (flat_map (left_labels OnLeft) d.agents) [] OnLeft) d.agents }
-    ∷ record { fault = PartialInit; offsets = flat_map partial_sites d.agents }
-    ∷ record { fault = TooManyNodes; offsets = past_limit 200 OnLeft 0 0 d.agents }
-    ∷ record { fault = TooManyInits; offsets = if_past (nat_le 1000 count) d.start.start }
-    ∷ []
+init_causes text sig count d = name_causes text sig d.agents ++ (complex_causes d.agents ++ record { fault = TooManyInits; first = if_past (nat_le 1000 count) d.start.start } ∷ [])
 
 -- ---- rules
 
@@ -148,35 +177,32 @@ abbrev pub agents_of_form : Form → List AgentText
 agents_of_form (Edit items) = agents_of items
 agents_of_form (Arrow left right both) = agents_of left ++ agents_of right
 
-abbrev pub odd_labels : Form → List ℕ
-odd_labels (Edit items) = flat_map (labels_not_twice (all_left_labels (Edit items)) (all_right_labels (Edit items)) ByMark) (agents_of items)
-odd_labels (Arrow left right both) =
-    flat_map (labels_not_twice (all_left_labels (Arrow left right both)) [] OnLeft) (agents_of left)
-    ++ flat_map (labels_not_twice [] (all_right_labels (Arrow left right both)) OnRight) (agents_of right)
+abbrev pub form_causes : Form → List Pair → List Cause
+form_causes form pairs =
+    record { fault = LabelNotTwice; first = odd_in form }
+    ∷ record { fault = TypeMismatch; first = head (mismatches pairs) }
+    ∷ []
 
-abbrev pub past_limits : Form → List ℕ
-past_limits (Edit items) = past_limit 12 ByMark 0 0 (agents_of items)
-past_limits (Arrow left right both) = past_limit 12 OnLeft 0 0 (agents_of left) ++ past_limit 12 OnRight 0 0 (agents_of right)
+abbrev pub sides_causes : List Pair → List Cause
+sides_causes pairs =
+    record { fault = HalfBond; first = head (half_bonds (sides_of pairs)) }
+    ∷ record { fault = BadRight; first = head (bad_rights pairs) }
+    ∷ []
+
+-- those of its limits, where so many rules stand before it
+abbrev pub limit_causes : Form → ℕ → ℕ → List Cause
+limit_causes form count start =
+    record { fault = TooManyNodes; first = thirteenth form }
+    ∷ record { fault = TooManyRules; first = if_past (nat_le 2000 count) start }
+    ∷ []
+
+abbrev pub forward_causes : List ℕ → List TypeEntry → Form → List Cause
+forward_causes text sig form = name_causes text sig (agents_of_form form) ++ form_causes form (pairs_of text sig form) ++ sides_causes (pairs_of text sig form)
 
 -- the causes of a rule before which so many stand
 abbrev pub rule_causes : List ℕ → List TypeEntry → ℕ → RuleText → List Cause
-rule_causes text sig count d =
-    record { fault = UnknownType; offsets = flat_map (unknown_types text sig) (agents_of_form d.form) }
-    ∷ record { fault = UnknownSite; offsets = flat_map (unknown_sites text sig) (agents_of_form d.form) }
-    ∷ record { fault = UnknownState; offsets = flat_map (unknown_states text sig) (agents_of_form d.form) }
-    ∷ record { fault = SiteTwice; offsets = flat_map (sites_twice text) (agents_of_form d.form) }
-    ∷ record { fault = LabelNotTwice; offsets = odd_labels d.form }
-    ∷ record { fault = TypeMismatch; offsets = mismatches (pairs_of text sig d.form) }
-    ∷ record { fault = HalfBond; offsets = half_bonds (sides_of (pairs_of text sig d.form)) }
-    ∷ record { fault = BadRight; offsets = bad_rights (pairs_of text sig d.form) }
-    ∷ record { fault = TooManyNodes; offsets = past_limits d.form }
-    ∷ record { fault = TooManyRules; offsets = if_past (nat_le 2000 count) d.start.start }
-    ∷ []
+rule_causes text sig count d = forward_causes text sig d.form ++ limit_causes d.form count d.start.start
 
 -- the same of the reverse rule: what isn't listed here depends on both sides alike, so it came with the forward rule
 abbrev pub reverse_causes : List ℕ → List TypeEntry → ℕ → RuleText → List Cause
-reverse_causes text sig count d =
-    record { fault = HalfBond; offsets = half_bonds (sides_of (turned (pairs_of text sig d.form))) }
-    ∷ record { fault = BadRight; offsets = bad_rights (turned (pairs_of text sig d.form)) }
-    ∷ record { fault = TooManyRules; offsets = if_past (nat_le 2000 count) d.start.start }
-    ∷ []
+reverse_causes text sig count d = sides_causes (turned (pairs_of text sig d.form)) ++ record { fault = TooManyRules; first = if_past (nat_le 2000 count) d.start.start } ∷ []

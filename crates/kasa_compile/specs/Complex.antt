@@ -1,10 +1,12 @@
 -- The complex of an init.
-use Rattle.std.specs.Prelude.{◌≡◌, ℕ, List, length, Option, Some, None, slice_get, option_and_then}
+use Rattle.std.specs.Prelude.{ℕ, List, Option, Some, None}
 use Rattle.kasa_graph.specs.declared.mixture.Agent.{Agent}
+use Rattle.kasa_graph.specs.declared.mixture.AgentSite.{AgentSite}
 use Rattle.kasa_graph.specs.declared.pattern.StateTest.{StateTest}
 use Rattle.kasa_graph.specs.declared.pattern.StateTest.TheVariants.{Any, Is}
 use Rattle.kasa_graph.specs.Signature.{TypeEntry, state_counts}
-use Rattle.kasa_graph.specs.Mixture.{type_in, state_in, partner_in, first_state, IsMixtureOver}
+use Rattle.kasa_graph.specs.Lists.{map_from}
+use Rattle.kasa_graph.specs.Mixture.{first_state}
 use Rattle.kasa_compile.specs.declared.said.LinkSaid.{LinkSaid}
 use Rattle.kasa_compile.specs.declared.said.LinkSaid.TheVariants.{Label}
 use Rattle.kasa_compile.specs.declared.said.SiteSaid.{SiteSaid}
@@ -30,10 +32,14 @@ abbrev pub partner_given : List AgentSaid → ℕ → Option SiteSaid → Option
 partner_given agents c None = None
 partner_given agents c (Some s) = joined_by agents (c, s.site) s.link
 
--- the agents are the cells in text order; a state that isn't given is the first, and a link that isn't given is free
-pub record IsComplexOf (sig : List TypeEntry) (agents : List AgentSaid) (m : List (Option Agent)) : Type 0 where
-  pub over : IsMixtureOver sig m
-  pub cells : length m ≡ length agents
-  pub types : (c : ℕ) (a : AgentSaid) → slice_get agents c ≡ Some a → type_in m c ≡ Some a.agent
-  pub states : (c s : ℕ) (a : AgentSaid) → slice_get agents c ≡ Some a → state_in m c s ≡ option_and_then (state_given (said_at a.sites s)) (slice_get (state_counts sig a.agent) s)
-  pub partners : (c s : ℕ) (a : AgentSaid) → slice_get agents c ≡ Some a → partner_in m c s ≡ partner_given agents c (said_at a.sites s)
+-- a site of the c-th agent: a state that isn't given is the first, and a link that isn't given is free
+abbrev pub site_given : List AgentSaid → ℕ → AgentSaid → ℕ → ℕ → AgentSite
+site_given agents c a s k = record { states = k; state = state_given (said_at a.sites s) k; partner = partner_given agents c (said_at a.sites s) }
+
+-- its cell
+abbrev pub cell_of : List TypeEntry → List AgentSaid → ℕ → AgentSaid → Option Agent
+cell_of sig agents c a = Some (record { agent = a.agent; sites = map_from 0 (site_given agents c a) (state_counts sig a.agent) })
+
+-- the agents are the cells in text order
+unfoldable pub complex_of : List TypeEntry → List AgentSaid → List (Option Agent)
+complex_of sig agents = map_from 0 (cell_of sig agents) agents

@@ -1,19 +1,37 @@
--- How many agents stand on each side, one by one.
-use Rattle.std.specs.Prelude.{◌≡◌, ℕ, ◌+◌, Bool, true, false, ◌&&◌, ◌||◌, Option, Some, None, nat_lt}
-use Rattle.kasa_syntax.specs.declared.agents.Mark.{Mark}
-use Rattle.kasa_compile.specs.declared.stands.Stands.{Stands}
-use Rattle.kasa_compile.specs.declared.checks.Counts.{Counts}
-use Rattle.kasa_compile.specs.Labels.{on_left, on_right}
-use Rattle.kasa_compile.specs.Limits.{one_more}
+-- How often each label stands among some, up to twice.
+use Rattle.std.specs.Prelude.{◌≡◌, ℕ, zero, suc, Bool, true, false, List, [], ◌∷◌, Option, Some, None, count_by, nat_eq, ◌==◌, if◌then◌else◌}
+use Rattle.std.specs.Map.{lookup}
+use Rattle.kasa_compile.specs.declared.label_counts.Label.{Label}
+use Rattle.kasa_compile.specs.declared.label_counts.Times.{Times}
+use Rattle.kasa_compile.specs.declared.label_counts.Times.TheVariants.{Once, Twice, More}
 
--- one more agent is one too many for its side
-abbrev pub is_past : ℕ → Counts → Stands → Mark → Bool
-is_past most counts stands mark = (on_left stands mark && nat_lt most (counts.lefts + 1)) || (on_right stands mark && nat_lt most (counts.rights + 1))
+-- None for no time
+abbrev pub times : ℕ → Option Times
+times zero = None
+times (suc zero) = Some Once
+times (suc (suc zero)) = Some Twice
+times (suc (suc (suc n))) = Some More
 
-abbrev pub counts_after : Counts → Stands → Mark → Counts
-counts_after counts stands mark = record { lefts = one_more (on_left stands mark) counts.lefts; rights = one_more (on_right stands mark) counts.rights }
+abbrev pub once_more : Option Times → Times
+once_more None = Once
+once_more (Some Once) = Twice
+once_more (Some Twice) = More
+once_more (Some More) = More
 
--- the counts with one more agent, None where it is one too many
-abbrev pub IsCounted : ℕ → Counts → Stands → Mark → Option Counts → Type 0
-IsCounted most counts stands mark None = is_past most counts stands mark ≡ true
-IsCounted most counts stands mark (Some next) = (is_past most counts stands mark ≡ false) × (next ≡ counts_after counts stands mark)
+abbrev pub times_at : List (ℕ × Times) → ℕ → Option Times
+times_at counts number = lookup (nat_eq number) counts
+
+-- the counts of some labels
+abbrev pub AreCountsOf : List Label → List (ℕ × Times) → Type 0
+AreCountsOf labels counts = (number : ℕ) → times_at counts number ≡ times (count_by (λ (l : Label). l.number == number) labels)
+
+abbrev pub are_two : Option Times → Bool
+are_two (Some Twice) = true
+are_two _ = false
+
+abbrev pub is_twice : List (ℕ × Times) → ℕ → Bool
+is_twice counts number = are_two (times_at counts number)
+
+-- the offset of a label that doesn't stand twice by the counts
+abbrev pub odd_by : List (ℕ × Times) → Label → List ℕ
+odd_by counts l = if is_twice counts l.number then [] else l.«at» ∷ []

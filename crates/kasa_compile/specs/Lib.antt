@@ -1,6 +1,6 @@
 pub mod Names
 pub mod Labels
-pub mod Limits
+pub mod Partial
 pub mod Said
 pub mod Sides
 pub mod SidesView
@@ -10,13 +10,11 @@ pub mod Rule
 pub mod Causes
 pub mod Model
 pub mod Valid
-pub mod Joints
+pub mod BondIndex
 pub mod Passes
 pub mod Compiling
-pub mod Sided
 pub mod Cells
 pub mod Touched
 pub mod Building
 pub mod Parts
 pub mod Counts
-pub mod Tally

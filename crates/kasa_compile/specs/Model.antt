@@ -1,6 +1,7 @@
 -- The model of a text, or the fault for which it has none.
-use Rattle.std.specs.Prelude.{◌≡◌, ℕ, ◌+◌, ◌-◌, ⊤, Bool, true, false, List, [], ◌∷◌, ◌++◌, length, Option, Some, None, Result, Ok, Err, map, take, drop, codes, if◌then◌else◌}
+use Rattle.std.specs.Prelude.{◌≡◌, ℕ, ◌+◌, ◌-◌, Bool, false, List, [], ◌∷◌, ◌++◌, Option, Some, None, Result, Ok, Err, map, codes, if◌then◌else◌}
 use Rattle.std.specs.List.{flat_map}
+use Rattle.kasa_graph.specs.declared.mixture.Agent.{Agent as Cell}
 use Rattle.kasa_graph.specs.Signature.{TypeEntry}
 use Rattle.kasa_syntax.specs.declared.tokens.Span.{Span}
 use Rattle.kasa_syntax.specs.declared.tokens.Token.{Token}
@@ -15,28 +16,28 @@ use Rattle.kasa_parser.specs.Parses.{IsOutcome as IsParsed}
 use Rattle.kasa_sig.specs.Mentions.{word}
 use Rattle.kasa_sig.specs.Outcome.{signature_of}
 use Rattle.kasa_rules.specs.declared.model.Model.{Model}
-use Rattle.kasa_rules.specs.ModelParts.{ModelParts}
+use Rattle.kasa_rules.specs.Rule.{RuleParts}
 use Rattle.kasa_compile.specs.declared.said.AgentSaid.{AgentSaid}
-use Rattle.kasa_compile.specs.declared.said.Pair.{Pair}
 use Rattle.kasa_compile.specs.declared.fault.CompileFault.{CompileFault}
 use Rattle.kasa_compile.specs.declared.fault.ModelFault.{ModelFault}
 use Rattle.kasa_compile.specs.declared.fault.ModelFault.TheVariants as fault
-use Rattle.kasa_compile.specs.Said.{left_agent, pairs_of, turned}
+use Rattle.kasa_compile.specs.declared.resolved.Side.TheVariants.{Left}
+use Rattle.kasa_compile.specs.Said.{agent_on, pairs_of, turned}
 use Rattle.kasa_compile.specs.Sides.{sides_of}
-use Rattle.kasa_compile.specs.Complex.{IsComplexOf}
-use Rattle.kasa_compile.specs.Rule.{IsRuleOf}
-use Rattle.kasa_compile.specs.Causes.{first_of, init_causes, rule_causes, reverse_causes}
+use Rattle.kasa_compile.specs.Complex.{complex_of}
+use Rattle.kasa_compile.specs.Rule.{rule_of}
+use Rattle.kasa_compile.specs.Causes.{or_else, first_of, init_causes, rule_causes, reverse_causes}
 
 -- ---- declarations
 
 -- the agents of an init
 abbrev pub complex_said : List ℕ → List TypeEntry → InitDecl → List AgentSaid
-complex_said text sig d = map (left_agent text sig) d.agents
+complex_said text sig d = map (agent_on Left text sig) d.agents
 
-abbrev pub complexes_in : List ℕ → List TypeEntry → Decl → List (List AgentSaid)
-complexes_in text sig (Agent d) = []
-complexes_in text sig (Init d) = complex_said text sig d ∷ []
-complexes_in text sig (Rule d) = []
+abbrev pub inits_in : List ℕ → List TypeEntry → Decl → List (List (Option Cell))
+inits_in text sig (Agent d) = []
+inits_in text sig (Init d) = complex_of sig (complex_said text sig d) ∷ []
+inits_in text sig (Rule d) = []
 
 -- a rule's name without its quotes, empty where there is none
 abbrev pub name_of : List ℕ → Option Span → List ℕ
@@ -48,35 +49,26 @@ abbrev pub reverse_name : List ℕ → List ℕ
 reverse_name [] = []
 reverse_name (b ∷ name) = b ∷ name ++ codes "_op"
 
--- a rule's name and its two sides
-pub record RuleSaid : Type 0 where
-  pub name : List ℕ
-  pub pairs : List Pair
-
 -- `<->` gives the rule from left to right and then the rule from right to left
 abbrev pub is_both : Form → Bool
 is_both (Edit items) = false
 is_both (Arrow left right both) = both
 
-abbrev pub forward_said : List ℕ → List TypeEntry → RuleText → RuleSaid
-forward_said text sig d = record { name = name_of text d.name; pairs = pairs_of text sig d.form }
+abbrev pub forward_rule : List ℕ → List TypeEntry → RuleText → RuleParts
+forward_rule text sig d = rule_of sig (name_of text d.name) (sides_of (pairs_of text sig d.form))
 
-abbrev pub reverse_said : List ℕ → List TypeEntry → RuleText → RuleSaid
-reverse_said text sig d = record { name = reverse_name (name_of text d.name); pairs = turned (pairs_of text sig d.form) }
+abbrev pub reverse_rule : List ℕ → List TypeEntry → RuleText → RuleParts
+reverse_rule text sig d = rule_of sig (reverse_name (name_of text d.name)) (sides_of (turned (pairs_of text sig d.form)))
 
-abbrev pub rules_said : List ℕ → List TypeEntry → RuleText → List RuleSaid
-rules_said text sig d = forward_said text sig d ∷ (if is_both d.form then reverse_said text sig d ∷ [] else [])
+abbrev pub rules_said : List ℕ → List TypeEntry → RuleText → List RuleParts
+rules_said text sig d = forward_rule text sig d ∷ (if is_both d.form then reverse_rule text sig d ∷ [] else [])
 
-abbrev pub rules_in : List ℕ → List TypeEntry → Decl → List RuleSaid
+abbrev pub rules_in : List ℕ → List TypeEntry → Decl → List RuleParts
 rules_in text sig (Agent d) = []
 rules_in text sig (Init d) = []
 rules_in text sig (Rule d) = rules_said text sig d
 
 -- ---- the first fault
-
-abbrev pub or_else : Option CompileFault → Option CompileFault → Option CompileFault
-or_else (Some fault) later = Some fault
-or_else None later = later
 
 -- the forward rule is tried with the whole list, and then the reverse rule
 abbrev pub rule_fault : List ℕ → List TypeEntry → ℕ → RuleText → Option CompileFault
@@ -102,18 +94,13 @@ first_fault text sig inits rules (d ∷ decls) = or_else (decl_fault text sig in
 
 -- ---- the model
 
--- each of the first list belongs to the one at its place in the second
-abbrev pub AreAll : {X Y : Type 0} → (X → Y → Type 0) → List X → List Y → Type 0
-AreAll R [] [] = ⊤
-AreAll R (x ∷ xs) (y ∷ ys) = R x y × AreAll R xs ys
-AreAll R _ _ = ⊥
+-- the model that declarations say over a signature, or their first fault
+abbrev pub unless_fault : Option CompileFault → Model → Result Model CompileFault
+unless_fault None model = Ok model
+unless_fault (Some fault) model = Err fault
 
--- the model that declarations say over a signature
-pub record IsModelSaid (text : List ℕ) (sig : List TypeEntry) (decls : List Decl) (model : Model) : Type 0 where
-  pub signature : model.sig ≡ sig
-  pub faultless : first_fault text sig 0 0 decls ≡ None
-  pub inits : AreAll (IsComplexOf sig) (flat_map (complexes_in text sig) decls) model.inits
-  pub rules : AreAll (λ (x : RuleSaid). IsRuleOf sig x.name (sides_of x.pairs)) (flat_map (rules_in text sig) decls) model.rules
+abbrev pub model_of : List ℕ → List TypeEntry → List Decl → Result Model CompileFault
+model_of text sig decls = unless_fault (first_fault text sig 0 0 decls) (record { sig = sig; inits = flat_map (inits_in text sig) decls; rules = flat_map (rules_in text sig) decls })
 
 -- the tokens of a text and its declarations
 pub record IsTree (text : List ℕ) (decls : List Decl) : Type 0 where
@@ -131,7 +118,7 @@ pub record IsModelOf (text : List ℕ) (model : Model) : Type 0 where
   pub decls : List Decl
   pub sig : List TypeEntry
   pub signed : IsSigned text decls sig
-  pub said : IsModelSaid text sig decls model
+  pub said : model_of text sig decls ≡ Ok model
 
 -- a text has no model for this fault, the first one: it is lexed, then parsed, then its signature is built, and then its
 -- inits and rules are compiled in text order
@@ -139,5 +126,10 @@ abbrev pub IsFaultOf : List ℕ → ModelFault → Type 0
 IsFaultOf text (fault.Lex f) = IsLexed text (Err f)
 IsFaultOf text (fault.Parse f) = (tokens : List Token) × IsLexed text (Ok tokens) × IsParsed text tokens (Err f)
 IsFaultOf text (fault.Sig f) = (decls : List Decl) × IsTree text decls × (signature_of text decls ≡ Err f)
-IsFaultOf text (fault.Compile f) = (decls : List Decl) × (sig : List TypeEntry) × IsSigned text decls sig × (first_fault text sig 0 0 decls ≡ Some f)
+IsFaultOf text (fault.Compile f) = (decls : List Decl) × (sig : List TypeEntry) × IsSigned text decls sig × (model_of text sig decls ≡ Err f)
 IsFaultOf text fault.NoMemory = ⊥
+
+-- what a text has: a model, or the fault for which it has none
+abbrev pub IsOutcomeOf : List ℕ → Result Model ModelFault → Type 0
+IsOutcomeOf text (Ok model) = IsModelOf text model
+IsOutcomeOf text (Err fault) = IsFaultOf text fault

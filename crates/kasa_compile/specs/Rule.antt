@@ -1,25 +1,32 @@
 -- The rule that two sides say.
-use Rattle.std.specs.Prelude.{◌≡◌, ℕ, Bool, true, false, ◌&&◌, List, [], ◌∷◌, length, map, Option, Some, None, nat_eq, slice_get, option_and_then, is_some, if◌then◌else◌}
+use Rattle.std.specs.Prelude.{ℕ, Bool, true, false, ◌&&◌, List, map, Option, Some, None, nat_eq, slice_get, option_and_then, if◌then◌else◌}
 use Rattle.std.specs.Option.{option_map_or}
 use Rattle.kasa_graph.specs.declared.pattern.StateTest.{StateTest}
 use Rattle.kasa_graph.specs.declared.pattern.StateTest.TheVariants as state
 use Rattle.kasa_graph.specs.declared.pattern.LinkTest.{LinkTest}
 use Rattle.kasa_graph.specs.declared.pattern.LinkTest.TheVariants as link
 use Rattle.kasa_graph.specs.Signature.{TypeEntry, state_counts}
-use Rattle.kasa_graph.specs.Pattern.{types_of, state_test, link_test}
+use Rattle.kasa_graph.specs.declared.pattern.SiteTests.{SiteTests}
+use Rattle.kasa_graph.specs.declared.pattern.Node.{Node}
+use Rattle.kasa_graph.specs.Lists.{map_from}
 use Rattle.kasa_rules.specs.declared.rule.Fate.{Fate}
 use Rattle.kasa_rules.specs.declared.rule.Fate.TheVariants.{Deleted, Kept}
 use Rattle.kasa_rules.specs.declared.rule.End.{End}
 use Rattle.kasa_rules.specs.declared.rule.End.TheVariants as «end»
 use Rattle.kasa_rules.specs.declared.rule.Written.{Written}
 use Rattle.kasa_rules.specs.declared.rule.Written.TheVariants as written
-use Rattle.kasa_rules.specs.Rule.{RuleParts, fate_at, written_state, written_link, made_type, made_state, made_link, IsRuleOver}
+use Rattle.kasa_rules.specs.declared.rule.SiteAction.{SiteAction}
+use Rattle.kasa_rules.specs.declared.rule.NodeAction.{NodeAction}
+use Rattle.kasa_rules.specs.declared.rule.MadeSite.{MadeSite}
+use Rattle.kasa_rules.specs.declared.rule.MadeAgent.{MadeAgent}
+use Rattle.kasa_rules.specs.Rule.{RuleParts}
+use Rattle.kasa_rules.specs.Draft.{no_action}
 use Rattle.kasa_compile.specs.declared.said.LinkSaid.{LinkSaid}
 use Rattle.kasa_compile.specs.declared.said.LinkSaid.TheVariants as said
 use Rattle.kasa_compile.specs.declared.said.SiteSaid.{SiteSaid}
 use Rattle.kasa_compile.specs.declared.said.AgentSaid.{AgentSaid}
 use Rattle.kasa_compile.specs.Sides.{SidesParts}
-use Rattle.kasa_compile.specs.Bonds.{said_at, is_same, joined_to}
+use Rattle.kasa_compile.specs.Bonds.{said_at, joined_to}
 use Rattle.kasa_compile.specs.Complex.{state_given}
 
 -- ---- the test of a left site
@@ -97,23 +104,58 @@ abbrev pub link_made_by : SidesParts → ℕ → Option SiteSaid → Written
 link_made_by x k None = written.Free
 link_made_by x k (Some s) = link_to_make x (k, s.site) s.link
 
--- ---- the rule
+-- ---- the left pattern
+
+-- the n-th agent's node, with what it asks for at each site of its type
+abbrev pub site_asked : List AgentSaid → ℕ → AgentSaid → ℕ → ℕ → SiteTests
+site_asked left n a s k = record { states = k; state = left_state_test (said_at a.sites s); link = left_link_test left n (said_at a.sites s) }
+
+abbrev pub node_of : List TypeEntry → List AgentSaid → ℕ → AgentSaid → Node
+node_of sig left n a = record { agent = a.agent; sites = map_from 0 (site_asked left n a) (state_counts sig a.agent) }
+
+unfoldable pub nodes_of : List TypeEntry → List AgentSaid → List Node
+nodes_of sig left = map_from 0 (node_of sig left) left
+
+-- ---- what becomes of its nodes
+
+-- what the k-th agent on the right says of a site, and its type
+abbrev pub said_on_right : SidesParts → ℕ → ℕ → Option SiteSaid
+said_on_right x k s = option_and_then (λ (b : AgentSaid). said_at b.sites s) (slice_get x.right k)
+
+abbrev pub type_on_right : SidesParts → ℕ → ℕ
+type_on_right x k = option_map_or (λ (b : AgentSaid). b.agent) (slice_get x.right k) 0
+
+-- what it writes beside the left tests of a site
+abbrev pub site_written : SidesParts → ℕ → ℕ → SiteTests → SiteAction
+site_written x k s tests = record { state = state_written_by tests.state (said_on_right x k s); link = link_written_by x k tests.link (said_on_right x k s) }
 
 abbrev pub fate_of : Option ℕ → Fate
 fate_of None = Deleted
 fate_of (Some k) = Kept
 
+-- the node that is the k-th agent on the right stays, and one that is none is deleted
+abbrev pub action_of : SidesParts → Node → Option ℕ → NodeAction
+action_of x node None = record { fate = Deleted; sites = map (λ _. no_action) node.sites }
+action_of x node (Some k) = record { fate = Kept; sites = map_from 0 (site_written x k) node.sites }
+
+abbrev pub number_after : SidesParts → ℕ → Option ℕ
+number_after x n = option_and_then (λ k. k) (slice_get x.after n)
+
+-- ---- the agents that are created
+
+abbrev pub site_made : SidesParts → ℕ → ℕ → ℕ → MadeSite
+site_made x k s n = record { states = n; state = state_given (said_on_right x k s) n; link = link_made_by x k (said_on_right x k s) }
+
+abbrev pub made_of : List TypeEntry → SidesParts → ℕ → MadeAgent
+made_of sig x k = record { agent = type_on_right x k; sites = map_from 0 (site_made x k) (state_counts sig (type_on_right x k)) }
+
+-- ---- the rule
+
 -- the rule of these sides, under this name
-pub record IsRuleOf (sig : List TypeEntry) (name : List ℕ) (x : SidesParts) (r : RuleParts) : Type 0 where
-  pub named : r.name ≡ name
-  pub over : IsRuleOver sig r
-  pub types : types_of r.left ≡ map (λ a. a.agent) x.left
-  pub states : (n s : ℕ) (a : AgentSaid) → slice_get x.left n ≡ Some a → state_test r.left n s ≡ left_state_test (said_at a.sites s)
-  pub links : (n s : ℕ) (a : AgentSaid) → slice_get x.left n ≡ Some a → link_test r.left n s ≡ left_link_test x.left n (said_at a.sites s)
-  pub fates : (n : ℕ) (k : Option ℕ) → slice_get x.after n ≡ Some k → fate_at r n ≡ Some (fate_of k)
-  pub written_states : (n s k : ℕ) (b : AgentSaid) → slice_get x.after n ≡ Some (Some k) → slice_get x.right k ≡ Some b → written_state r n s ≡ state_written_by (state_test r.left n s) (said_at b.sites s)
-  pub written_links : (n s k : ℕ) (b : AgentSaid) → slice_get x.after n ≡ Some (Some k) → slice_get x.right k ≡ Some b → written_link r n s ≡ link_written_by x k (link_test r.left n s) (said_at b.sites s)
-  pub made : length r.made ≡ length x.made
-  pub made_types : (j k : ℕ) (b : AgentSaid) → slice_get x.made j ≡ Some k → slice_get x.right k ≡ Some b → made_type r j ≡ Some b.agent
-  pub made_states : (j k s : ℕ) (b : AgentSaid) → slice_get x.made j ≡ Some k → slice_get x.right k ≡ Some b → made_state r j s ≡ option_and_then (state_given (said_at b.sites s)) (slice_get (state_counts sig b.agent) s)
-  pub made_links : (j k s : ℕ) (b : AgentSaid) → slice_get x.made j ≡ Some k → slice_get x.right k ≡ Some b → made_link r j s ≡ link_made_by x k (said_at b.sites s)
+unfoldable pub rule_of : List TypeEntry → List ℕ → SidesParts → RuleParts
+rule_of sig name x = record {
+  name = name;
+  left = nodes_of sig x.left;
+  actions = map_from 0 (λ n node. action_of x node (number_after x n)) (nodes_of sig x.left);
+  made = map (made_of sig x) x.made;
+}

@@ -1,5 +1,5 @@
 -- What the passes over an init or a rule show before it is compiled: numbers exist, and labels join.
-use Rattle.std.specs.Prelude.{◌≡◌, ◌↔◌, ℕ, ◌<◌, List, length, map, Option, Some, slice_get}
+use Rattle.std.specs.Prelude.{◌≡◌, ◌↔◌, ℕ, ◌<◌, List, length, map, Some, slice_get}
 use Rattle.kasa_graph.specs.Signature.{TypeEntry, HasSite, HasState}
 use Rattle.kasa_graph.specs.Lists.{AllDifferent}
 use Rattle.kasa_graph.specs.declared.pattern.StateTest.TheVariants.{Is}

@@ -1,19 +1,21 @@
 // The inits and rules of a text, in text order.
-ghost use Rattle.std.specs.Prelude.{List, ℕ, ◌≡◌, ◌≢◌, ◌≤◌, ◌++◌, ◌∷◌, [], None, Some, length, ◌+◌, IfOk, OnOk, IfErr};
+ghost use Rattle.std.specs.Prelude.{List, ℕ, ◌≡◌, ◌≢◌, ◌≤◌, ◌++◌, ◌∷◌, [], None, Some, Ok, Err, length, ◌+◌, IfOk, OnOk, IfErr};
 ghost use Rattle.kasa_compile.specs.declared.fault.CompileFault.TheVariants.{NoMemory as no_memory};
-ghost use Rattle.kasa_compile.specs.Causes.{first_of, init_causes, rule_causes, reverse_causes};
-ghost use Rattle.kasa_compile.specs.Model.{complex_said, name_of, reverse_name, is_both, forward_said, reverse_said, rule_fault, first_fault, IsModelSaid};
+ghost use Rattle.kasa_compile.specs.Causes.{first_of, init_causes, forward_causes, rule_causes, reverse_causes};
+ghost use Rattle.kasa_compile.specs.Model.{complex_said, name_of, reverse_name, is_both, forward_rule, reverse_rule, rule_fault, first_fault, model_of};
+ghost use Rattle.kasa_compile.specs.Complex.{complex_of};
 ghost use Rattle.kasa_compile.specs.Said.{pairs_of, turned};
 ghost use Rattle.kasa_compile.specs.Sides.{sides_of};
 ghost use Rattle.kasa_compile.specs.Valid.{AreSides};
-ghost use Rattle.kasa_compile.specs.Compiling.{forward_causes, sides_causes, AreTried, IsSmallComplex, IsSmallRule, AreCompiled, AreAdded};
+ghost use Rattle.kasa_compile.specs.Compiling.{AreTried, IsSmallComplex, IsSmallRule, AreCompiled, AreAdded};
 ghost use Rattle.kasa_syntax.specs.declared.decls.Decl.{Decl as SpecDecl};
 
 use crate::CompileFault;
+use crate::causes::{Tried, form_fault, init_fault, limit_fault, place, try_sides};
 use crate::complex::complex;
-use crate::pairs::{complex_agents, pairs, turn};
+use crate::pairs::{pairs, turn};
+use crate::resolved::complex_agents;
 use crate::rule::rule;
-use crate::tried::{Tried, form_fault, init_fault, limit_fault, place, try_sides};
 use crate::words::between;
 use kasa_graph::{Mixture, Signature};
 use kasa_num::NoMemory;
@@ -30,7 +32,8 @@ fn compile_init(
     init: &InitDecl,
 ) -> Result<Mixture, CompileFault>
     requires few { length text.now ≤ 4194304 }
-    ensures complex { IfOk result (λ complex. IsSmallComplex sig.now (complex_said text.now sig.now init.now) complex) }
+    ensures complex { IfOk result (λ complex. complex ≡ complex_of sig.now (complex_said text.now sig.now init.now)) }
+    ensures small { IfOk result (λ complex. IsSmallComplex sig.now complex) }
     ensures faultless { IfOk result (λ complex. first_of text.now (init_causes text.now sig.now count init.now) ≡ None) }
     ensures fault { IfErr result (λ fault. fault ≢ no_memory → first_of text.now (init_causes text.now sig.now count init.now) ≡ Some fault) }
 {
@@ -107,7 +110,8 @@ fn forward_rule(
     decl: &RuleText,
 ) -> Result<Rule, CompileFault>
     requires few { length text.now ≤ 4194304 }
-    ensures rule { IfOk result (λ rule. IsSmallRule sig.now (forward_said text.now sig.now decl.now) rule) }
+    ensures rule { IfOk result (λ rule. rule ≡ forward_rule text.now sig.now decl.now) }
+    ensures small { IfOk result (λ rule. IsSmallRule sig.now rule) }
     ensures faultless { IfOk result (λ rule. first_of text.now (rule_causes text.now sig.now count decl.now) ≡ None) }
     ensures fault { IfErr result (λ fault. fault ≢ no_memory → first_of text.now (rule_causes text.now sig.now count decl.now) ≡ Some fault) }
 {
@@ -148,7 +152,8 @@ fn reverse_rule(
 ) -> Result<Rule, CompileFault>
     requires few { length text.now ≤ 4194304 }
     requires forward { first_of text.now (rule_causes text.now sig.now count decl.now) ≡ None }
-    ensures rule { IfOk result (λ rule. IsSmallRule sig.now (reverse_said text.now sig.now decl.now) rule) }
+    ensures rule { IfOk result (λ rule. rule ≡ reverse_rule text.now sig.now decl.now) }
+    ensures small { IfOk result (λ rule. IsSmallRule sig.now rule) }
     ensures faultless { IfOk result (λ rule. first_of text.now (reverse_causes text.now sig.now (count + 1) decl.now) ≡ None) }
     ensures fault { IfErr result (λ fault. fault ≢ no_memory → first_of text.now (reverse_causes text.now sig.now (count + 1) decl.now) ≡ Some fault) }
 {
@@ -262,8 +267,8 @@ pub fn compile(
     decls: &[Decl],
 ) -> Result<Model, CompileFault>
     requires few { length text.now ≤ 4194304 }
-    ensures model { IfOk result (λ model. IsModelSaid text.now sig decls.now model) }
-    ensures fault { IfErr result (λ fault. fault ≢ no_memory → first_fault text.now sig 0 0 decls.now ≡ Some fault) }
+    ensures model { IfOk result (λ model. model_of text.now sig decls.now ≡ Ok model) }
+    ensures fault { IfErr result (λ fault. fault ≢ no_memory → model_of text.now sig decls.now ≡ Err fault) }
 {
     let Compiled { inits, rules } = compile_decls(alloc, text, &sig, decls)?;
     let inits = Inits::new(inits);

@@ -1,13 +1,13 @@
 // The complex of an init.
 ghost use Rattle.std.specs.Prelude.{◌≡◌, ◌≢◌, ◌≤◌, ◌<◌, ◌+◌, length, take, None, Some, IfOk, OnOk, slice_get};
-ghost use Rattle.kasa_graph.specs.Mixture.{partner_in, HasAgentSite};
+ghost use Rattle.kasa_graph.specs.Mixture.{partner_in, HasAgentSite, IsMixtureOver};
 ghost use Rattle.kasa_compile.specs.declared.said.AgentSaid.{AgentSaid as Said};
 ghost use Rattle.kasa_compile.specs.Cells.{number_of, with_given, AreUnjoined, bonded, HasMoreBonds, IsJoining, AreNamedOnce, AreSitesJoined, AreAgentsJoined};
-ghost use Rattle.kasa_compile.specs.Complex.{IsComplexOf};
-ghost use Rattle.kasa_compile.specs.Joints.{AreJointsOf};
+ghost use Rattle.kasa_compile.specs.Complex.{complex_of};
+ghost use Rattle.kasa_compile.specs.BondIndex.{AreBondsOf};
 ghost use Rattle.kasa_compile.specs.Valid.{AreSaid, AreJoined};
 
-use crate::joints::{Joints, label_of, sites_of};
+use crate::bonds::{Bonds, label_of, sites_of};
 use crate::said::AgentSaid;
 use kasa_graph::{Mixture, Signature, StateTest};
 use kasa_num::{NoMemory, SiteNo, StateNo};
@@ -83,11 +83,11 @@ fn add_agents(alloc: Global, sig: &Signature, agents: &[AgentSaid]) -> Result<Mi
 }
 
 // Joins the labels of an agent.
-fn join_agent(mixture: &mut Mixture, joints: &Joints, agents: &[AgentSaid], cell: usize)
+fn join_agent(mixture: &mut Mixture, bonds: &Bonds, agents: &[AgentSaid], cell: usize)
     requires joined { AreJoined agents.now }
     requires once { AreNamedOnce agents.now }
     requires few { length agents.now ≤ 200 }
-    requires index { AreJointsOf agents.now joints.now }
+    requires index { AreBondsOf agents.now bonds.now }
     requires within { cell < length agents.now }
     requires before { IsJoining agents.now mixture.old }
     ensures more { HasMoreBonds mixture.old mixture.new }
@@ -96,25 +96,25 @@ fn join_agent(mixture: &mut Mixture, joints: &Joints, agents: &[AgentSaid], cell
 {
     for site in sites_of(&agents[cell]) {
         if let Some(number) = label_of(site.link) {
-            let (other, there) = joints.joined_to(number, (cell, site.site));
+            let (other, there) = bonds.joined_to(number, (cell, site.site));
             join_if_free(mixture, (cell as u32, site.site), (other as u32, there));
         }
     }
 }
 
 // Joins all labels.
-fn join_agents(mixture: &mut Mixture, joints: &Joints, agents: &[AgentSaid])
+fn join_agents(mixture: &mut Mixture, bonds: &Bonds, agents: &[AgentSaid])
     requires joined { AreJoined agents.now }
     requires once { AreNamedOnce agents.now }
     requires few { length agents.now ≤ 200 }
-    requires index { AreJointsOf agents.now joints.now }
+    requires index { AreBondsOf agents.now bonds.now }
     requires before { IsJoining agents.now mixture.old }
     ensures more { HasMoreBonds mixture.old mixture.new }
     ensures joining { IsJoining agents.now mixture.new }
     ensures labels { AreAgentsJoined agents.now mixture.new (length agents.now) }
 {
     for cell in 0..agents.len() {
-        join_agent(mixture, joints, agents, cell);
+        join_agent(mixture, bonds, agents, cell);
     }
 }
 
@@ -123,10 +123,11 @@ pub fn complex(alloc: Global, sig: &Signature, agents: &[AgentSaid]) -> Result<M
     requires said { AreSaid sig.now agents.now }
     requires joined { AreJoined agents.now }
     requires few { length agents.now ≤ 200 }
-    ensures { IfOk result (λ complex. IsComplexOf sig.now agents.now complex) }
+    ensures is { IfOk result (λ complex. complex ≡ complex_of sig.now agents.now) }
+    ensures over { IfOk result (λ complex. IsMixtureOver sig.now complex) }
 {
-    let joints = Joints::of(alloc, agents)?;
+    let bonds = Bonds::of(alloc, agents)?;
     let mut mixture = add_agents(alloc, sig, agents)?;
-    join_agents(&mut mixture, &joints, agents);
+    join_agents(&mut mixture, &bonds, agents);
     Ok(mixture)
 }

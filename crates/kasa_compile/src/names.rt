@@ -10,7 +10,7 @@ ghost use Rattle.kasa_compile.specs.Causes.{agents_of_form};
 ghost use Rattle.kasa_compile.specs.Passes.{name_faults};
 ghost use Rattle.kasa_compile.specs.Parts.{unknown_part};
 
-use crate::pairs::{site_number, type_number};
+use crate::resolved::{site_number, type_number};
 use crate::words::word_at;
 use kasa_graph::Signature;
 use kasa_num::{AgentType, SiteNo};

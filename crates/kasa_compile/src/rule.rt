@@ -6,18 +6,18 @@ ghost use Rattle.kasa_graph.specs.PatternText.{stands_before};
 ghost use Rattle.kasa_graph.specs.Pattern.{types_of, state_test, link_test, blank_node, HasNodeSite, IsPatternOver};
 ghost use Rattle.kasa_compile.specs.declared.said.SiteSaid.{SiteSaid as Site};
 ghost use Rattle.kasa_compile.specs.declared.said.AgentSaid.{AgentSaid as Said};
-ghost use Rattle.kasa_rules.specs.Rule.{IsDraftOver};
+ghost use Rattle.kasa_rules.specs.Rule.{IsDraftOver, IsRuleOver};
 ghost use Rattle.kasa_rules.specs.Draft.{HasEndSite, HasEndState};
 ghost use Rattle.kasa_compile.specs.declared.said.LinkSaid.TheVariants as Link;
 ghost use Rattle.kasa_compile.specs.Bonds.{said_at, joined_to};
-ghost use Rattle.kasa_compile.specs.Building.{Says, with_state_asked, with_link_asked, IsAsking, IsAsked, IsFurther, MayAsk, IsLinked, MayFree, MayWrite, with_state_due, with_free, with_bond_due, with_link_due, end_before, has_state, state_to_put, link_to_put, CanWrite, IsLater, IsDone, AreAwaiting, type_on_right, IsFresh, IsBare};
+ghost use Rattle.kasa_compile.specs.Building.{Says, with_state_asked, with_link_asked, IsAsking, IsAsked, IsFurther, MayAsk, IsLinked, MayFree, MayWrite, with_state_due, with_free, with_bond_due, with_link_due, end_before, has_state, state_to_put, link_to_put, CanWrite, IsLater, IsDone, AreAwaiting, IsFresh, IsBare};
 ghost use Rattle.kasa_compile.specs.Causes.{half_bonds};
-ghost use Rattle.kasa_compile.specs.Joints.{AreJointsOf};
-ghost use Rattle.kasa_compile.specs.Rule.{link_asked, left_state_test, left_link_test, is_state, end_at, leads_to, link_to_write, link_to_make, IsRuleOf};
+ghost use Rattle.kasa_compile.specs.BondIndex.{AreBondsOf};
+ghost use Rattle.kasa_compile.specs.Rule.{link_asked, left_state_test, left_link_test, is_state, end_at, leads_to, link_to_write, link_to_make, type_on_right, rule_of};
 ghost use Rattle.kasa_compile.specs.SidesView.{HasShortEnds};
 ghost use Rattle.kasa_compile.specs.Valid.{AreSaid, AreJoined, AreSides};
 
-use crate::joints::Joints;
+use crate::bonds::Bonds;
 use crate::said::{AgentSaid, LinkSaid, SiteSaid};
 use crate::sides::{Origin, Sides};
 use kasa_graph::{LinkTest, Pattern, Signature, StateTest};
@@ -58,11 +58,11 @@ fn site_said(agents: &[AgentSaid], n: usize, i: usize) -> SiteSaid
 }
 
 // The link test that a site asks for.
-fn asked(agents: &[AgentSaid], joints: &Joints, n: usize, said: &SiteSaid) -> LinkTest
+fn asked(agents: &[AgentSaid], bonds: &Bonds, n: usize, said: &SiteSaid) -> LinkTest
     requires known { (sig : List TypeEntry) × AreSaid sig agents.now }
     requires joined { AreJoined agents.now }
     requires few { length agents.now ≤ 12 }
-    requires indexed { AreJointsOf agents.now joints.now }
+    requires indexed { AreBondsOf agents.now bonds.now }
     requires stands { (i : ℕ) × Says agents.now n i said.now }
     ensures { result ≡ link_asked agents.now (n, said.now.site) said.now.link }
 {
@@ -72,7 +72,7 @@ fn asked(agents: &[AgentSaid], joints: &Joints, n: usize, said: &SiteSaid) -> Li
         Some(LinkSaid::Bound) => LinkTest::Bound,
         Some(LinkSaid::Partner(agent, site)) => LinkTest::Partner(agent, site),
         Some(LinkSaid::Label(number)) => {
-            let (m, site) = joints.joined_to(number, (n, said.site));
+            let (m, site) = bonds.joined_to(number, (n, said.site));
             LinkTest::To(NodeNo(m as u16), site)
         }
     }
@@ -105,10 +105,10 @@ fn put_link(left: &mut Pattern, node: NodeNo, site: SiteNo, test: LinkTest)
 }
 
 // The tests of a site that an agent names.
-fn ask_site(left: &mut Pattern, agents: &[AgentSaid], joints: &Joints, n: usize, i: usize)
+fn ask_site(left: &mut Pattern, agents: &[AgentSaid], bonds: &Bonds, n: usize, i: usize)
     requires few { length agents.now ≤ 12 }
     requires joined { AreJoined agents.now }
-    requires indexed { AreJointsOf agents.now joints.now }
+    requires indexed { AreBondsOf agents.now bonds.now }
     requires known { (sig : List TypeEntry) × (AreSaid sig agents.now × IsAsking sig agents.now left.old) }
     requires stands { (s : Site) × Says agents.now n i s }
     ensures further { IsFurther agents.now left.old left.new }
@@ -117,22 +117,22 @@ fn ask_site(left: &mut Pattern, agents: &[AgentSaid], joints: &Joints, n: usize,
     let said = site_said(agents, n, i);
     let node = NodeNo(n as u16);
     put_state(left, node, said.site, said.state);
-    let test = asked(agents, joints, n, &said);
+    let test = asked(agents, bonds, n, &said);
     put_link(left, node, said.site, test);
 }
 
 // The tests of the sites that an agent names.
-fn ask_sites(left: &mut Pattern, agents: &[AgentSaid], joints: &Joints, n: usize)
+fn ask_sites(left: &mut Pattern, agents: &[AgentSaid], bonds: &Bonds, n: usize)
     requires few { length agents.now ≤ 12 }
     requires joined { AreJoined agents.now }
-    requires indexed { AreJointsOf agents.now joints.now }
+    requires indexed { AreBondsOf agents.now bonds.now }
     requires known { (sig : List TypeEntry) × (AreSaid sig agents.now × IsAsking sig agents.now left.old) }
     requires stands { n < length agents.now }
     ensures further { IsFurther agents.now left.old left.new }
     ensures asked { (i : ℕ) (s : Site) → Says agents.now n i s → IsAsked agents.now left.new n s.site }
 {
     for i in 0..count_said(agents, n) {
-        ask_site(left, agents, joints, n, i);
+        ask_site(left, agents, bonds, n, i);
     }
 }
 
@@ -141,12 +141,12 @@ fn left_pattern(
     alloc: Global,
     sig: &Signature,
     agents: &[AgentSaid],
-    joints: &Joints,
+    bonds: &Bonds,
 ) -> Result<Pattern, NoMemory>
     requires said { AreSaid sig.now agents.now }
     requires joined { AreJoined agents.now }
     requires few { length agents.now ≤ 12 }
-    requires indexed { AreJointsOf agents.now joints.now }
+    requires indexed { AreBondsOf agents.now bonds.now }
     ensures over { IfOk result (λ left. IsPatternOver sig.now left) }
     ensures types { IfOk result (λ left. types_of left ≡ map (λ a. a.agent) agents.now) }
     ensures states { IfOk result (λ left. (n s : ℕ) (a : Said) → slice_get agents.now n ≡ Some a → state_test left n s ≡ left_state_test (said_at a.sites s)) }
@@ -154,19 +154,19 @@ fn left_pattern(
 {
     let mut left = blank_pattern(alloc, sig, agents)?;
     for n in 0..agents.len() {
-        ask_sites(&mut left, agents, joints, n);
+        ask_sites(&mut left, agents, bonds, n);
     }
     Ok(left)
 }
 
 // The end and the site that a label on the right joins to the one at which it stands.
-fn joined_end(sides: &Sides, joints: &Joints, place: (usize, SiteNo), number: u16) -> (End, SiteNo)
-    requires indexed { AreJointsOf sides.now.right joints.now }
+fn joined_end(sides: &Sides, bonds: &Bonds, place: (usize, SiteNo), number: u16) -> (End, SiteNo)
+    requires indexed { AreBondsOf sides.now.right bonds.now }
     requires short { HasShortEnds sides.now }
     requires linked { IsLinked sides.now place number }
     ensures { let q = joined_to sides.now.right number place in result ≡ (end_at sides.now.ends q.0, q.1) }
 {
-    let (other, site) = joints.joined_to(number, place);
+    let (other, site) = bonds.joined_to(number, place);
     (end_of(sides, other), site)
 }
 
@@ -186,12 +186,12 @@ fn leads_to(test: LinkTest, end: &End, site: SiteNo) -> bool
 // The link that the k-th agent on the right writes at a site of a kept node.
 fn kept_link(
     sides: &Sides,
-    joints: &Joints,
+    bonds: &Bonds,
     test: LinkTest,
     k: usize,
     said: &SiteSaid,
 ) -> Option<Written>
-    requires indexed { AreJointsOf sides.now.right joints.now }
+    requires indexed { AreBondsOf sides.now.right bonds.now }
     requires short { HasShortEnds sides.now }
     requires linked { (number : ℕ) → said.now.link ≡ Some (Link.Label number) → IsLinked sides.now (k, said.now.site) number }
     ensures { result ≡ link_to_write sides.now (k, said.now.site) test said.now.link }
@@ -202,7 +202,7 @@ fn kept_link(
             _ => Some(Written::Free),
         },
         Some(LinkSaid::Label(number)) => {
-            let (end, site) = joined_end(sides, joints, (k, said.site), number);
+            let (end, site) = joined_end(sides, bonds, (k, said.site), number);
             if leads_to(test, &end, site) {
                 None
             } else {
@@ -214,15 +214,15 @@ fn kept_link(
 }
 
 // The link that the k-th agent on the right, which is created, has at a site.
-fn made_link(sides: &Sides, joints: &Joints, k: usize, said: &SiteSaid) -> Written
-    requires indexed { AreJointsOf sides.now.right joints.now }
+fn made_link(sides: &Sides, bonds: &Bonds, k: usize, said: &SiteSaid) -> Written
+    requires indexed { AreBondsOf sides.now.right bonds.now }
     requires short { HasShortEnds sides.now }
     requires linked { (number : ℕ) → said.now.link ≡ Some (Link.Label number) → IsLinked sides.now (k, said.now.site) number }
     ensures { result ≡ link_to_make sides.now (k, said.now.site) said.now.link }
 {
     match said.link {
         Some(LinkSaid::Label(number)) => {
-            let (end, site) = joined_end(sides, joints, (k, said.site), number);
+            let (end, site) = joined_end(sides, bonds, (k, said.site), number);
             Written::To(end, site)
         }
         _ => Written::Free,
@@ -232,21 +232,21 @@ fn made_link(sides: &Sides, joints: &Joints, k: usize, said: &SiteSaid) -> Writt
 // The link that the k-th agent on the right gives to a site of this end.
 fn link_due(
     sides: &Sides,
-    joints: &Joints,
+    bonds: &Bonds,
     left: &Pattern,
     end: &End,
     k: usize,
     said: &SiteSaid,
 ) -> Option<Written>
-    requires indexed { AreJointsOf sides.now.right joints.now }
+    requires indexed { AreBondsOf sides.now.right bonds.now }
     requires short { HasShortEnds sides.now }
     requires linked { (number : ℕ) → said.now.link ≡ Some (Link.Label number) → IsLinked sides.now (k, said.now.site) number }
     requires exists { (n : ℕ) → «end».now ≡ End.Left n → HasNodeSite left.now n said.now.site }
     ensures { result ≡ link_to_put sides.now left.now «end».now k said.now }
 {
     match end {
-        End::Left(node) => kept_link(sides, joints, left.link(*node, said.site), k, said),
-        End::Made(_) => Some(made_link(sides, joints, k, said)),
+        End::Left(node) => kept_link(sides, bonds, left.link(*node, said.site), k, said),
+        End::Made(_) => Some(made_link(sides, bonds, k, said)),
     }
 }
 
@@ -396,12 +396,12 @@ fn right_count(sides: &Sides, k: usize) -> usize
 fn write_site(
     draft: &mut RuleDraft,
     sides: &Sides,
-    joints: &Joints,
+    bonds: &Bonds,
     left: &Pattern,
     k: usize,
     i: usize,
 )
-    requires indexed { AreJointsOf sides.now.right joints.now }
+    requires indexed { AreBondsOf sides.now.right bonds.now }
     requires short { HasShortEnds sides.now }
     requires can { (sig : List TypeEntry) × CanWrite sig sides.now left.now draft.old }
     requires waits { AreAwaiting sides.now left.now draft.old k i }
@@ -415,13 +415,13 @@ fn write_site(
     let end = end_of(sides, k);
     let state = state_due(left, &end, said.site, said.state);
     put_state_due(draft, &end, said.site, state);
-    let link = link_due(sides, joints, left, &end, k, &said);
+    let link = link_due(sides, bonds, left, &end, k, &said);
     put_link_due(draft, &end, said.site, link);
 }
 
 // Writes what the sites that the k-th agent on the right names give.
-fn write_sites(draft: &mut RuleDraft, sides: &Sides, joints: &Joints, left: &Pattern, k: usize)
-    requires indexed { AreJointsOf sides.now.right joints.now }
+fn write_sites(draft: &mut RuleDraft, sides: &Sides, bonds: &Bonds, left: &Pattern, k: usize)
+    requires indexed { AreBondsOf sides.now.right bonds.now }
     requires short { HasShortEnds sides.now }
     requires can { (sig : List TypeEntry) × CanWrite sig sides.now left.now draft.old }
     requires waits { AreAwaiting sides.now left.now draft.old k 0 }
@@ -432,13 +432,13 @@ fn write_sites(draft: &mut RuleDraft, sides: &Sides, joints: &Joints, left: &Pat
     ensures done { (sig : List TypeEntry) → CanWrite sig sides.now left.now draft.old → (i : ℕ) (s : Site) → Says sides.now.right k i s → IsDone sig sides.now left.now draft.new (end_at sides.now.ends k) s.site }
 {
     for i in 0..right_count(sides, k) {
-        write_site(draft, sides, joints, left, k, i);
+        write_site(draft, sides, bonds, left, k, i);
     }
 }
 
 // Writes what all agents on the right give.
-fn write_all(draft: &mut RuleDraft, sides: &Sides, joints: &Joints, left: &Pattern)
-    requires indexed { AreJointsOf sides.now.right joints.now }
+fn write_all(draft: &mut RuleDraft, sides: &Sides, bonds: &Bonds, left: &Pattern)
+    requires indexed { AreBondsOf sides.now.right bonds.now }
     requires short { HasShortEnds sides.now }
     requires can { (sig : List TypeEntry) × CanWrite sig sides.now left.now draft.old }
     requires waits { AreAwaiting sides.now left.now draft.old 0 0 }
@@ -448,7 +448,7 @@ fn write_all(draft: &mut RuleDraft, sides: &Sides, joints: &Joints, left: &Patte
 {
     let right = &sides.right;
     for k in 0..right.len() {
-        write_sites(draft, sides, joints, left, k);
+        write_sites(draft, sides, bonds, left, k);
     }
 }
 
@@ -562,16 +562,17 @@ pub fn rule(
     sig: &Signature,
     name: &[u8],
     sides: &Sides,
-    left: &Joints,
-    right: &Joints,
+    left: &Bonds,
+    right: &Bonds,
 ) -> Result<Rule, NoMemory>
     requires sides { AreSides sig.now sides.now }
     requires few_left { length sides.now.left ≤ 12 }
     requires few_right { length sides.now.right ≤ 12 }
     requires whole { half_bonds sides.now ≡ [] }
-    requires left_joints { AreJointsOf sides.now.left left.now }
-    requires right_joints { AreJointsOf sides.now.right right.now }
-    ensures { IfOk result (λ rule. IsRuleOf sig.now name.now sides.now rule) }
+    requires left_bonds { AreBondsOf sides.now.left left.now }
+    requires right_bonds { AreBondsOf sides.now.right right.now }
+    ensures is { IfOk result (λ rule. rule ≡ rule_of sig.now name.now sides.now) }
+    ensures over { IfOk result (λ rule. IsRuleOver sig.now rule) }
 {
     let pattern = left_pattern(alloc, sig, &sides.left, left)?;
     let mut draft = bare_draft(alloc, sig, name, sides, &pattern)?;

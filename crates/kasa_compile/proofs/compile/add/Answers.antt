@@ -1,8 +1,8 @@
-use Rattle.std.proofs.Common.{◌≡◌, ◌≢◌, List, ◌++◌, ◌∷◌, [], Option, None, Some, Ok, Err, Result, OnOk, IfErr, sym, ap, ◌∙◌, subst}
+use Rattle.std.proofs.Common.{◌≡◌, List, ◌∷◌, Option, None, Some, sym, ◌∙◌, subst}
 use Rattle.std.proofs.lemmas.Result.{err_from_is_err_and}
 use Rattle.kasa_graph.specs.declared.mixture.Agent.{Agent as CellAgent}
 use Rattle.kasa_syntax.specs.declared.decls.Decl.{Decl}
-use Rattle.kasa_syntax.specs.declared.decls.Decl.TheVariants.{Agent, Init, Rule}
+use Rattle.kasa_syntax.specs.declared.decls.Decl.TheVariants.{Init, Rule}
 use Rattle.kasa_compile.specs.Causes.{first_of, init_causes}
 use Rattle.kasa_compile.specs.Compiling.{AreCompiled}
 use Rattle.kasa_compile.proofs.CompiledLemmas.{agent_added, init_added, rules_added, fault_here, on_ok, if_err}
@@ -22,7 +22,7 @@ returns-in-Agent-clause-added c decls rest are = agent_added c.args.text.now c.a
 pub returns-in_ok-push_init-in-Init-clause-added : goal.returns-in_ok-push_init-in-Init-clause-added
 returns-in_ok-push_init-in-Init-clause-added c decls rest are =
     subst (λ (xs : List (List (Option CellAgent))). AreCompiled c.args.text.now c.args.sig.now decls rest xs c.args.rules.now.items) (sym c.in_ok-push_init-in-Init.ensures)
-    (init_added c.args.text.now c.args.sig.now decls rest c.in-Init.init c.args.inits.now.items c.in_ok-complex-in-Init.complex c.args.rules.now.items c.in_ok-complex-in-Init.ensures.complex
+    (init_added c.args.text.now c.args.sig.now decls rest c.in-Init.init c.args.inits.now.items c.in_ok-complex-in-Init.complex c.args.rules.now.items c.in_ok-complex-in-Init.ensures.complex c.in_ok-complex-in-Init.ensures.small
     (subst (λ n. first_of c.args.text.now (init_causes c.args.text.now c.args.sig.now n c.in-Init.init) ≡ None) (c.len.ensures ∙ c.args.inits.now.ok.0) c.in_ok-complex-in-Init.ensures.faultless)
     (subst (λ (d : Decl). AreCompiled c.args.text.now c.args.sig.now decls (d ∷ rest) c.args.inits.now.items c.args.rules.now.items) c.in-Init.is are))
 

@@ -1,4 +1,4 @@
-use Rattle.std.proofs.Common.{◌≡◌, List, ◌++◌, ◌∷◌, [], sym, ap, ◌∙◌, subst}
+use Rattle.std.proofs.Common.{List, ◌++◌, ◌∷◌, [], sym, ap, ◌∙◌, subst}
 use Rattle.std.proofs.lemmas.Result.{err_from_is_err_and}
 use Rattle.kasa_rules.specs.Rule.{RuleParts}
 use Rattle.kasa_compile.specs.Compiling.{AreAdded}
@@ -19,10 +19,10 @@ pub returns-in_ok-push_rule-2-clause-added : goal.returns-in_ok-push_rule-2-clau
 returns-in_ok-push_rule-2-clause-added c =
     subst (λ (xs : List RuleParts). AreAdded c.args.text.now c.args.sig.now c.args.decl.now c.args.rules.now.items xs)
     (sym (c.in_ok-push_rule-2.ensures ∙ ap (λ (xs : List RuleParts). xs ++ c.in_ok-reverse.reverse ∷ []) c.in_ok-push_rule.ensures))
-    (both_added c.args.text.now c.args.sig.now c.args.decl.now c.len-count.result c.args.rules.now.items c.in_ok-forward.forward c.in_ok-reverse.reverse (c.len-count.ensures ∙ c.args.rules.now.ok.0) c.in_ok-forward.ensures.faultless (sym c.is_both.ensures ∙ c.if-is_both.true) c.in_ok-reverse.ensures.faultless c.in_ok-forward.ensures.rule c.in_ok-reverse.ensures.rule)
+    (both_added c.args.text.now c.args.sig.now c.args.decl.now c.len-count.result c.args.rules.now.items c.in_ok-forward.forward c.in_ok-reverse.reverse (c.len-count.ensures ∙ c.args.rules.now.ok.0) c.in_ok-forward.ensures.faultless (sym c.is_both.ensures ∙ c.if-is_both.true) c.in_ok-reverse.ensures.faultless c.in_ok-forward.ensures.rule c.in_ok-forward.ensures.small c.in_ok-reverse.ensures.rule c.in_ok-reverse.ensures.small)
 
 pub returns-else-is_both-clause-added : goal.returns-else-is_both-clause-added
 returns-else-is_both-clause-added c =
     subst (λ (xs : List RuleParts). AreAdded c.args.text.now c.args.sig.now c.args.decl.now c.args.rules.now.items xs)
     (sym c.in_ok-push_rule.ensures)
-    (one_added c.args.text.now c.args.sig.now c.args.decl.now c.len-count.result c.args.rules.now.items c.in_ok-forward.forward (c.len-count.ensures ∙ c.args.rules.now.ok.0) c.in_ok-forward.ensures.faultless (sym c.is_both.ensures ∙ c.if-is_both.false) c.in_ok-forward.ensures.rule)
+    (one_added c.args.text.now c.args.sig.now c.args.decl.now c.len-count.result c.args.rules.now.items c.in_ok-forward.forward (c.len-count.ensures ∙ c.args.rules.now.ok.0) c.in_ok-forward.ensures.faultless (sym c.is_both.ensures ∙ c.if-is_both.false) c.in_ok-forward.ensures.rule c.in_ok-forward.ensures.small)

@@ -1,8 +1,7 @@
-use Rattle.std.proofs.Common.{◌+◌, ◌∷◌, List, drop, sym, subst}
-use Rattle.std.proofs.lemmas.Result.{err_from_is_err_and}
+use Rattle.std.proofs.Common.{◌+◌, List, drop, subst}
 use Rattle.kasa_syntax.specs.declared.decls.Decl.{Decl}
 use Rattle.kasa_compile.specs.Compiling.{AreCompiled}
-use Rattle.kasa_compile.proofs.CompiledLemmas.{compiled_none, compiled_all, next_decl}
+use Rattle.kasa_compile.proofs.CompiledLemmas.{next_decl}
 use Rattle.kasa_compile.proofs.compile.compile_decls.Goals as goal
 
 pub loop-decl-preserved : goal.loop-decl-preserved

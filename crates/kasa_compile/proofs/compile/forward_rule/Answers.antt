@@ -1,7 +1,7 @@
-use Rattle.std.proofs.Common.{◌≡◌, ◌≤◌, length, sym, ◌∙◌, subst}
+use Rattle.std.proofs.Common.{◌≤◌, length, sym, ◌∙◌, subst}
 use Rattle.std.proofs.lemmas.Result.{err_from_is_err_and}
 use Rattle.kasa_compile.specs.Sides.{SidesParts}
-use Rattle.kasa_compile.specs.Compiling.{forward_causes, limit_causes}
+use Rattle.kasa_compile.specs.Causes.{forward_causes, limit_causes}
 use Rattle.kasa_compile.proofs.CauseLemmas.{none_first}
 use Rattle.kasa_compile.proofs.FaultlessLemmas.{none_at}
 use Rattle.kasa_compile.proofs.ValidLemmas.{few-forward}

@@ -4,8 +4,8 @@ use Rattle.kasa_compile.specs.declared.fault.CompileFault.TheVariants.{NoMemory 
 use Rattle.kasa_compile.specs.Said.{pairs_of}
 use Rattle.kasa_compile.specs.Sides.{sides_of}
 use Rattle.kasa_compile.specs.Valid.{AreSides}
-use Rattle.kasa_compile.specs.Causes.{first_of, agents_of_form}
-use Rattle.kasa_compile.specs.Compiling.{name_causes, form_causes, sides_causes, limit_causes, AreTried}
+use Rattle.kasa_compile.specs.Causes.{first_of, agents_of_form, name_causes, form_causes, sides_causes, limit_causes}
+use Rattle.kasa_compile.specs.Compiling.{AreTried}
 use Rattle.kasa_compile.proofs.CauseLemmas.{some_first}
 use Rattle.kasa_compile.proofs.FaultlessLemmas.{forward_fault, tried_after, sides_valid}
 use Rattle.kasa_compile.proofs.compile.forward_sides.Goals as goal

@@ -4,8 +4,7 @@ use Rattle.kasa_compile.specs.declared.fault.CompileFault.TheVariants.{NoMemory 
 use Rattle.kasa_compile.specs.Said.{turned}
 use Rattle.kasa_compile.specs.Sides.{sides_of}
 use Rattle.kasa_compile.specs.Valid.{AreSides}
-use Rattle.kasa_compile.specs.Causes.{first_of}
-use Rattle.kasa_compile.specs.Compiling.{sides_causes}
+use Rattle.kasa_compile.specs.Causes.{first_of, sides_causes}
 use Rattle.kasa_compile.proofs.FaultlessLemmas.{reverse_fault}
 use Rattle.kasa_compile.proofs.compile.reverse_sides.Goals as goal
 

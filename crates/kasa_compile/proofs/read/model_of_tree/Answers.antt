@@ -1,5 +1,3 @@
-use Rattle.std.proofs.Common.{subst}
-use Rattle.kasa_compile.specs.Model.{IsSigned, IsModelOf, IsModelSaid}
 use Rattle.kasa_compile.proofs.read.model_of_tree.Goals as goal
 
 pub returns-in-Ok-clause-model : goal.returns-in-Ok-clause-model

@@ -9,13 +9,14 @@ use Rattle.kasa_compile.specs.declared.said.AgentSaid.{AgentSaid as Said}
 use Rattle.kasa_compile.specs.Sides.{SidesParts}
 use Rattle.kasa_compile.specs.Bonds.{said_at}
 use Rattle.kasa_compile.specs.Causes.{half_bonds}
-use Rattle.kasa_compile.specs.Rule.{left_state_test, left_link_test, end_at, IsRuleOf}
+use Rattle.kasa_compile.specs.Rule.{left_state_test, left_link_test, end_at, rule_of}
 use Rattle.kasa_compile.specs.Valid.{AreSides}
 use Rattle.kasa_compile.specs.Building.{Says, IsBare, CanWrite, IsLater, IsDone}
 use Rattle.kasa_compile.proofs.BareLemmas.{CanWrite-bare, AreAwaiting-bare}
 use Rattle.kasa_compile.proofs.EndLemmas.{HasShortEnds-few}
 use Rattle.kasa_compile.proofs.StepLemmas.{CanWrite-later}
 use Rattle.kasa_compile.proofs.FinalLemmas.{IsRuleOf-done, HasWholeBonds-done}
+use Rattle.kasa_compile.proofs.RuleRead.{rule_is}
 use Rattle.kasa_compile.proofs.rule.rule.Goals as goal
 
 module _ (sig : List TypeEntry) (x : SidesParts) (sides : AreSides sig x) (name : List ℕ) (g : List Node) (r0 : RuleParts) (bare : IsBare sig x name g x.made r0) (over : IsDraftOver sig r0) (agents : List Said) (same : agents ≡ x.left) (types : types_of g ≡ map (λ (a : Said). a.agent) agents) where
@@ -29,8 +30,8 @@ module _ (sig : List TypeEntry) (x : SidesParts) (sides : AreSides sig x) (name 
     whole : half_bonds x ≡ [] → HasWholeBonds r
     whole none = HasWholeBonds-done sig x name g r0 r bare can_all (later can_bare) (done can_bare) (rw same at links) none
 
-    is_rule : IsRuleOver sig r → ((n s : ℕ) (a : Said) → slice_get agents n ≡ Some a → state_test g n s ≡ left_state_test (said_at a.sites s)) → IsRuleOf sig name x r
-    is_rule over_rule states = IsRuleOf-done sig x name g r0 r bare can_all (later can_bare) (done can_bare) over_rule (rw same at states) (rw same at links)
+    is_rule : IsRuleOver sig r → ((n s : ℕ) (a : Said) → slice_get agents n ≡ Some a → state_test g n s ≡ left_state_test (said_at a.sites s)) → r ≡ rule_of sig name x
+    is_rule over_rule states = rule_is sig name x r (IsRuleOf-done sig x name g r0 r bare can_all (later can_bare) (done can_bare) over_rule (rw same at states) (rw same at links)) sides.numbered
 
 pub write_all-requires-clause-short : goal.write_all-requires-clause-short
 write_all-requires-clause-short c = HasShortEnds-few c.args.sig.now c.args.sides.now c.requires.sides c.requires.few_left c.requires.few_right
@@ -49,8 +50,11 @@ finish-requires c =
     whole c.args.sig.now c.args.sides.now c.requires.sides c.args.name.now c.in_ok-pattern.pattern c.in_ok-draft.draft c.in_ok-draft.ensures.bare c.in_ok-draft.ensures.over c.deref.result.now same c.in_ok-pattern.ensures.types
     c.in_ok-pattern.ensures.links c.write_all.new.draft (c.write_all.ensures.over c.args.sig.now c.in_ok-draft.ensures.over) (c.write_all.ensures.later c.args.sig.now) (c.write_all.ensures.done c.args.sig.now) c.requires.whole
 
-pub returns : goal.returns
-returns c =
+pub returns-clause-over : goal.returns-clause-over
+returns-clause-over c = c.finish.ensures.over c.args.sig.now (c.write_all.ensures.over c.args.sig.now c.in_ok-draft.ensures.over)
+
+pub returns-clause-is : goal.returns-clause-is
+returns-clause-is c =
     let same : c.deref.result.now ≡ c.args.sides.now.left = search rules in
     let over = c.write_all.ensures.over c.args.sig.now c.in_ok-draft.ensures.over in
     let over_rule : IsRuleOver c.args.sig.now c.write_all.new.draft = rw c.finish.ensures.rule at (c.finish.ensures.over c.args.sig.now over) in

@@ -1,7 +1,0 @@
-use Rattle.std.proofs.Common.{◌≡◌, take, []}
-use Rattle.std.specs.List.{flat_map}
-use Rattle.kasa_compile.specs.Limits.{partial_site}
-use Rattle.kasa_compile.proofs.checks.partial_site_among.Given as goal
-
-abbrev pub invariant-loop-site : goal.invariant-loop-site
-invariant-loop-site l = flat_map partial_site (take l.site-index l.sites) ≡ []

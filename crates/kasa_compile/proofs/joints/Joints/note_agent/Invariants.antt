@@ -1,7 +1,0 @@
-use Rattle.std.proofs.Common.{take}
-use Rattle.kasa_compile.specs.Bonds.{labelled}
-use Rattle.kasa_compile.specs.Joints.{IsContinued}
-use Rattle.kasa_compile.proofs.joints.Joints.note_agent.Given as goal
-
-abbrev pub invariant-loop-site : goal.invariant-loop-site
-invariant-loop-site l = IsContinued l.initial.self l.self (λ number. labelled l.agent number (take l.site-index l.sites))
