@@ -11,4 +11,3 @@ pub mod ViewOrder
 pub mod MentionLemmas
 pub mod SiteSetLemmas
 pub mod PlanLemmas
-pub mod RemovedCells

@@ -2,18 +2,10 @@
 #![tactic(auto)]
 
 mod faults;
-#[cfg(test)]
-mod firing_tests;
 mod lemmas;
-#[cfg(test)]
-mod plain_firing;
 mod plan;
 mod program;
-#[cfg(test)]
-mod row_tests;
 mod status;
-#[cfg(test)]
-mod tests;
 
 pub use program::run;
 pub use status::Status;
