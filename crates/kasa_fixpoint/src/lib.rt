@@ -5,8 +5,6 @@ mod acts;
 mod fault;
 mod growing;
 mod rounds;
-#[cfg(test)]
-mod tests;
 
 pub use fault::SolveFault;
 pub use rounds::solve;

@@ -2,8 +2,6 @@ pub mod SeenLemmas
 pub mod Forward
 pub mod StandSites
 pub mod OutcomeLemmas
-pub mod WorkedRules
-pub mod WorkedTables
 pub mod CollectLemmas
 pub mod WalkLemmas
 pub mod FoundLemmas

@@ -4,22 +4,8 @@
 mod collect;
 pub mod laws;
 mod outcomes;
-#[cfg(test)]
-mod outcomes_tests;
-#[cfg(test)]
-mod row_tests;
-#[cfg(test)]
-mod search_tests;
 mod seen;
-#[cfg(test)]
-mod tests;
 mod walk;
-#[cfg(test)]
-mod worked;
-#[cfg(test)]
-mod worked_models;
-#[cfg(test)]
-mod worked_tables;
 mod yielded;
 
 pub use seen::initial;

@@ -1,5 +1,0 @@
-use Rattle.kasa_graph.proofs.BesideLemmas.{IsMixtureOver-[]}
-use Rattle.kasa_fixpoint.proofs.tests.nothing.Goals as goal
-
-pub returns : goal.returns
-returns c = rw c.new.ensures (IsMixtureOver-[] c.args.sig.now)

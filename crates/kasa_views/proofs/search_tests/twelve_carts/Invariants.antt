@@ -1,5 +1,0 @@
-use Rattle.kasa_graph.specs.Pattern.{IsPatternOver}
-use Rattle.kasa_views.proofs.search_tests.twelve_carts.Given as goal
-
-abbrev pub invariant-loop-node : goal.invariant-loop-node
-invariant-loop-node g l = IsPatternOver l.sig l.g
