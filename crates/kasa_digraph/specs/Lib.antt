@@ -1,0 +1,4 @@
+pub mod Graph
+pub mod Weight
+pub mod FirstCycle
+pub mod inner
