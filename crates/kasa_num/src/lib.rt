@@ -1,8 +1,12 @@
-//! Typed numbers, places in a text, names, and the answer of a call that found no memory.
+//! Typed numbers, places in a text, names, lists, limits, and the answer of a call that found no memory.
 #![tactic(auto)]
 
 ghost use Rattle.std.specs.Prelude.{◌≡◌, IfOk};
 
+pub mod limits;
+mod listed;
+
+pub use listed::Listed;
 use std::alloc::{AllocError, AllocFailed, Global};
 use std::cmp::Ordering;
 use std::marker::Model;
