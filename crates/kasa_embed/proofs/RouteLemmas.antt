@@ -1,5 +1,5 @@
 -- Routes in a connected pattern, and where they lead in an embedding.
-use Rattle.std.proofs.Common.{◌≡◌, ◌≢◌, ℕ, zero, suc, ◌+◌, ◌<◌, ◌≤◌, ◌⊎◌, inl, inr, List, [], ◌∷◌, ◌++◌, length, refl, ap, sym, ◌∙◌, arith, length-append}
+use Rattle.std.proofs.Common.{◌≡◌, ◌≢◌, ℕ, suc, ◌+◌, ◌<◌, ◌≤◌, ◌⊎◌, inl, inr, List, [], ◌∷◌, ◌++◌, length, refl, sym, ◌∙◌, arith, length-append}
 use Rattle.std.specs.Prelude.{Option, Some, None, slice_get, option_map}
 use Rattle.kasa_graph.specs.declared.pattern.LinkTest.TheVariants.{To}
 use Rattle.kasa_graph.specs.declared.pattern.Node.{Node}
@@ -7,7 +7,8 @@ use Rattle.kasa_graph.specs.declared.mixture.Agent.{Agent}
 use Rattle.kasa_graph.specs.Pattern.{link_test}
 use Rattle.kasa_graph.specs.Mixture.{partner_in}
 use Rattle.kasa_graph.specs.Embedding.{IsEmbedding, MeetsLink}
-use Rattle.kasa_graph.proofs.ListLemmas.{same_or_not, slice_get-pushed}
+use Rattle.kasa_lists.proofs.Numbers.{same_or_not}
+use Rattle.kasa_lists.proofs.Elements.{at_push, slice_get-pushed}
 use Rattle.kasa_graph.proofs.PatternLemmas.{node_bound}
 use Rattle.kasa_graph.proofs.BondLemmas.{site_of_bond}
 use Rattle.kasa_embed.specs.declared.route.Route.{Route}
@@ -63,20 +64,6 @@ module _ (g : List Node) (few : length g ≤ 3) where
         | inr near ↦ near
       ]
 
--- ---- near nodes are connected with the first one
-
-pub near_of_route : (g : List Node) (n : ℕ) (r : Route) → IsRoute g n r → n ≢ 0 → IsNear g n
-near_of_route g n Here route apart = absurd (apart route)
-near_of_route g n (Over s) route apart = inl (s, route.0, route.1)
-near_of_route g n (OverTwo s u) route apart = inr (route.0, (s, route.1, route.3), (u, route.2, route.4))
-
-pub connected_of_near : (g : List Node) → ((n : ℕ) → 0 < n → n < length g → IsNear g n) → IsConnected g
-connected_of_near g near zero within = ([], refl)
-connected_of_near g near (suc n) within = elim (near (suc n) (omega arith) within) [
-  | inl bound ↦ (suc n ∷ [], (bound, refl))
-  | inr over ↦ (over.0 ∷ suc n ∷ [], (over.1, (over.2, refl)))
-]
-
 -- ---- the routes to the first nodes
 
 -- a route to each of the first k nodes
@@ -85,31 +72,15 @@ pub record AreRoutesBelow (g : List Node) (k : ℕ) (routes : List Route) : Type
   pub start : slice_get routes 0 ≡ Some Here
   pub each : (n : ℕ) (r : Route) → slice_get routes n ≡ Some r → IsRoute g n r
 
-pub AreRoutesBelow-start : (g : List Node) → AreRoutesBelow g 1 (Here ∷ [])
-AreRoutesBelow-start g = record { count = refl; start = refl; each = only }
-  where
-    only : (n : ℕ) (r : Route) → slice_get (Here ∷ []) n ≡ Some r → IsRoute g n r
-    only zero r e = let same : Here ≡ r = cc in rw (← same) refl
-    only (suc n) r e = absurd cc
-
-pushed_at : {X : Type 0} (xs : List X) (x y : X) (k : ℕ) → slice_get (xs ++ x ∷ []) k ≡ Some y → (slice_get xs k ≡ Some y) ⊎ ((k ≡ length xs) × (x ≡ y))
-pushed_at [] x y zero e = inr (refl, cc)
-pushed_at [] x y (suc k) e = absurd cc
-pushed_at (z ∷ xs) x y zero e = inl e
-pushed_at (z ∷ xs) x y (suc k) e = elim (pushed_at xs x y k e) [ inl h ↦ inl h | inr h ↦ inr (ap suc h.0, h.1) ]
-
 pub AreRoutesBelow-push : (g : List Node) (k : ℕ) (routes : List Route) (route : Route) → AreRoutesBelow g k routes → IsRoute g k route → AreRoutesBelow g (k + 1) (routes ++ route ∷ [])
 AreRoutesBelow-push g k routes route are leads = record {
   count = length-append routes (route ∷ []) ∙ (let e = are.count in omega arith);
   start = slice_get-pushed routes route Here 0 are.start;
-  each = λ n r e. elim (pushed_at routes route r n e) [
+  each = λ n r e. elim (at_push routes route r n e) [
     | inl h ↦ are.each n r h
     | inr h ↦ let here : n ≡ k = h.0 ∙ are.count in rw (here, ← h.1) leads
   ];
 }
-
-pub AreRoutes-all : (g : List Node) (k : ℕ) (routes : List Route) → AreRoutesBelow g k routes → k ≡ length g → AreRoutes g routes
-AreRoutes-all g k routes are all = record { count = are.count ∙ all; start = are.start; each = are.each }
 
 -- ---- where a route leads in an embedding
 

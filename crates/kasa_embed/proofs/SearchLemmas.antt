@@ -1,7 +1,6 @@
 -- What the search has found after so many first cells.
 use Rattle.std.proofs.Common.{◌≡◌, ℕ, zero, suc, ◌+◌, ◌<◌, ◌≤◌, inl, inr, List, [], ◌∷◌, ◌++◌, length, refl, sym, arith}
 use Rattle.std.specs.Prelude.{Option, Some, None, slice_get}
-use Rattle.std.specs.List.{AllByRecursion}
 use Rattle.std.specs.Ordering.{nat_cmp}
 use Rattle.std.specs.Cmp.{nat_cmp_is}
 use Rattle.std.specs.Cmp.Lexicographic.{slice_cmp}
@@ -10,19 +9,17 @@ use Rattle.std.specs.declared.cmp.Ordering.{Ordering}
 use Rattle.std.specs.declared.cmp.Ordering.TheVariants.{Less}
 use Rattle.kasa_graph.specs.declared.pattern.Node.{Node}
 use Rattle.kasa_graph.specs.declared.mixture.Agent.{Agent}
-use Rattle.kasa_graph.specs.Lists.{Has}
+use Rattle.kasa_lists.specs.Lists.{Has}
 use Rattle.kasa_graph.specs.Mixture.{type_in}
 use Rattle.kasa_graph.specs.Embedding.{IsEmbedding}
-use Rattle.kasa_graph.proofs.ListLemmas.{same_or_not, some_at, pushed_or, slice_get-pushed, slice_get-append_right}
+use Rattle.kasa_lists.proofs.Numbers.{same_or_not}
+use Rattle.kasa_lists.proofs.Every.{AllByRecursion-push}
+use Rattle.kasa_lists.proofs.Elements.{some_at, pushed_or, slice_get-pushed, slice_get-append_right}
 use Rattle.kasa_graph.proofs.FitLemmas.{some_agent}
 use Rattle.kasa_graph.proofs.CellLemmas.{living_of_type, alive_bound}
 use Rattle.kasa_embed.specs.Route.{IsEmbeddingFrom}
 
 -- ---- one more list, above all others
-
-AllByRecursion-push : {X : Type 0} (P : X → Type 0) (xs : List X) (x : X) → AllByRecursion P xs → P x → AllByRecursion P (xs ++ x ∷ [])
-AllByRecursion-push P [] x all p = (p, tt)
-AllByRecursion-push P (y ∷ xs) x all p = (all.0, AllByRecursion-push P xs x all.1 p)
 
 IsStrictlySortedBy-push : {X : Type 0} (c : X → X → Ordering) (xs : List X) (x : X) → IsStrictlySortedBy c xs → ((y : X) → Has xs y → c y x ≡ Less) → IsStrictlySortedBy c (xs ++ x ∷ [])
 unfolding IsStrictlySortedBy

@@ -3,7 +3,7 @@ ghost use Rattle.std.specs.Prelude.{◌≡◌, ℕ, ◌<◌, ◌≤◌, List, le
 ghost use Rattle.std.specs.Ordering.{nat_cmp};
 ghost use Rattle.std.specs.Cmp.Lexicographic.{slice_cmp};
 ghost use Rattle.std.specs.List.Sorted.{IsStrictlySortedBy};
-ghost use Rattle.kasa_graph.specs.Lists.{Has};
+ghost use Rattle.kasa_lists.specs.Lists.{Has};
 ghost use Rattle.kasa_graph.specs.Embedding.{IsEmbedding};
 ghost use Rattle.kasa_embed.specs.Connected.{IsConnected};
 ghost use Rattle.kasa_embed.specs.Route.{AreRoutes, ends_of, IsEmbeddingFrom};

@@ -1,18 +1,16 @@
 -- Two mixtures side by side: what stands in each cell, and that both being valid makes them valid together.
 use Rattle.std.proofs.Common.{◌≡◌, ◌≢◌, ℕ, ◌+◌, ◌<◌, inl, inr, List, [], ◌∷◌, refl, sym, ap, ◌∙◌, subst, map, length, arith}
 use Rattle.std.specs.Prelude.{Option, Some, None, slice_get, option_map, option_and_then}
-use Rattle.std.proofs.lemmas.Option.{slice_get-map, slice_get_within}
+use Rattle.std.proofs.lemmas.Option.{slice_get-map}
 use Rattle.kasa_graph.specs.declared.mixture.Agent.{Agent}
 use Rattle.kasa_graph.specs.declared.mixture.AgentSite.{AgentSite}
 use Rattle.kasa_graph.specs.Signature.{TypeEntry}
 use Rattle.kasa_graph.specs.Signature.{state_counts}
 use Rattle.kasa_graph.specs.Mixture.{agent_in, type_in, site_in, state_in, partner_in, shift_partner, shift_site, shift_agent, beside, IsMixture, IsAgentSite, IsMixtureOver}
-use Rattle.kasa_graph.proofs.ListLemmas.{some_map, some_then, slice_get-append_left, slice_get-append_right, below_or}
-
--- what stands in a cell stands in the mixture
-pub agent_in-within : (m : List (Option Agent)) (c : ℕ) (a : Agent) → agent_in m c ≡ Some a → c < length m
-unfolding agent_in
-agent_in-within m c a e = let cell = some_then (λ (x : Option Agent). x) (slice_get m c) a e in slice_get_within m c cell.0 cell.1
+pub use Rattle.kasa_graph.proofs.CellLemmas.{agent_bound as agent_in-within}
+use Rattle.kasa_lists.proofs.Numbers.{below_or}
+use Rattle.kasa_lists.proofs.Options.{some_map, some_then}
+use Rattle.kasa_lists.proofs.Elements.{slice_get-append_left, slice_get-append_right}
 
 pub partner_in-within : (m : List (Option Agent)) (c s : ℕ) (p : ℕ × ℕ) → partner_in m c s ≡ Some p → c < length m
 unfolding partner_in site_in

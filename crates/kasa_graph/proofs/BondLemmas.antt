@@ -5,7 +5,7 @@ use Rattle.std.proofs.lemmas.Grind.{common_steps}
 use Rattle.std.proofs.lemmas.Bool.{le-ltb, lt-ltb}
 use Rattle.std.proofs.lemmas.Bool.Decides.{nat_tests}
 use Rattle.indexmap.specs.IndexSet.{insert_key}
-use Rattle.kasa_graph.specs.Lists.{Has}
+use Rattle.kasa_lists.specs.Lists.{Has}
 use Rattle.std.proofs.lemmas.List.{take_all}
 use Rattle.kasa_graph.specs.declared.pattern.LinkTest.TheVariants.{Any, To}
 use Rattle.kasa_graph.specs.declared.pattern.SiteTests.{SiteTests}
@@ -14,7 +14,9 @@ use Rattle.kasa_graph.specs.Pattern.{site_at, link_test, IsPattern}
 use Rattle.kasa_graph.specs.PatternText.{place, stands_before, begins_bond, first_ends_in, first_ends, bond_number}
 use Rattle.std.specs.Option.{option_map_or}
 use Rattle.std.specs.Prelude.{option_and_then}
-use Rattle.kasa_graph.proofs.ListLemmas.{below_or, Has-append, Has-left, Has-right}
+use Rattle.kasa_lists.proofs.Numbers.{below_or}
+use Rattle.kasa_lists.proofs.Elements.{slice_get-take}
+use Rattle.kasa_lists.proofs.Having.{Has-append, Has-left, Has-right}
 use Rattle.kasa_graph.proofs.ShapeLemmas.{node_of_site}
 use Rattle.kasa_graph.specs.PatternTextParts.{sites_at, ends_before}
 
@@ -101,12 +103,6 @@ place-append e [] rest (k, at) = absurd (none k at)
     none (suc k) h = cc
 place-append e (f ∷ ends) rest (zero, at) = let this : f ≡ e = cc in rw (this, is e)
 place-append e (f ∷ ends) rest (suc k, at) = ap (λ n. cond (not (is_site e f)) (1 + n) 0) (place-append e ends rest (k, at))
-
-slice_get-take : {X : Type 0} (xs : List X) (n i : ℕ) → i < n → slice_get (take n xs) i ≡ slice_get xs i
-slice_get-take xs zero i h = absurd (omega arith)
-slice_get-take [] (suc n) i h = refl
-slice_get-take (x ∷ xs) (suc n) zero h = refl
-slice_get-take (x ∷ xs) (suc n) (suc i) h = slice_get-take xs n i (omega arith)
 
 -- ---- first ends before a site, at it and behind it
 

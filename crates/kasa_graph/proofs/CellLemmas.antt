@@ -7,8 +7,12 @@ use Rattle.kasa_graph.specs.declared.mixture.AgentSite.{AgentSite}
 use Rattle.kasa_graph.specs.Signature.{TypeEntry}
 use Rattle.kasa_graph.specs.Signature.{state_counts}
 use Rattle.kasa_graph.specs.Mixture.{agent_in, type_in, site_in, partner_in, HasAgentSite, IsMixture, IsSmallMixture, first_site, first_agent, change_site, with_agent_site, with_agent_state, with_partner, with_joined}
-use Rattle.kasa_graph.proofs.ListLemmas.{some_then, slice_get-update_same, slice_get-update_other, slice_set-update, update-same, length-update}
-use Rattle.kasa_graph.proofs.PatternLemmas.{same_site_or_not}
+use Rattle.kasa_lists.proofs.Numbers.{same_both_or_not}
+use Rattle.kasa_lists.proofs.Options.{some_then}
+use Rattle.kasa_lists.specs.Lists.{update}
+use Rattle.kasa_lists.specs.Grid.{at_both, change}
+use Rattle.kasa_lists.proofs.Updates.{slice_set-update, update-alike, length-update}
+use Rattle.kasa_lists.proofs.Grid.{at_both-change_same, at_both-change_other, change-same}
 
 -- ---- what stands in a cell
 
@@ -53,21 +57,44 @@ HasAgentSite-of m c s x is = rw is refl
 
 -- ---- a change at one site
 
-pub site_in-with_agent_site_same : (m : List (Option Agent)) (c s : ℕ) (f : AgentSite → AgentSite) → site_in (with_agent_site m c s f) c s ≡ option_map f (site_in m c s)
+-- cells are a grid, in which an empty one has no sites and keeps none
+abbrev sites_of_cell : Option Agent → List AgentSite
+sites_of_cell None = []
+sites_of_cell (Some a) = a.sites
+
+abbrev cell_with : Option Agent → List AgentSite → Option Agent
+cell_with None xs = None
+cell_with (Some a) xs = Some (record a { sites = xs })
+
+sites_of_cell-update : (cell : Option Agent) (s : ℕ) (f : AgentSite → AgentSite) → sites_of_cell (cell_with cell (update (sites_of_cell cell) s f)) ≡ update (sites_of_cell cell) s f
+sites_of_cell-update None s f = refl
+sites_of_cell-update (Some a) s f = refl
+
+site_in-grid : (m : List (Option Agent)) (c s : ℕ) → site_in m c s ≡ at_both sites_of_cell m c s
 unfolding site_in agent_in
-site_in-with_agent_site_same [] c s f = refl
-site_in-with_agent_site_same (None ∷ m) zero s f = refl
-site_in-with_agent_site_same (Some a ∷ m) zero s f = slice_get-update_same a.sites s f
-site_in-with_agent_site_same (cell ∷ m) (suc c) s f = site_in-with_agent_site_same m c s f
+site_in-grid m c s = by (slice_get m c)
+  where
+    by : (o : Option (Option Agent)) → option_and_then (λ (a : Agent). slice_get a.sites s) (option_and_then (λ (cell : Option Agent). cell) o) ≡ option_and_then (λ (cell : Option Agent). slice_get (sites_of_cell cell) s) o
+    by None = refl
+    by (Some None) = refl
+    by (Some (Some a)) = refl
+
+with_agent_site-grid : (m : List (Option Agent)) (c s : ℕ) (f : AgentSite → AgentSite) → with_agent_site m c s f ≡ change sites_of_cell cell_with m c s f
+with_agent_site-grid m c s f = update-alike m c (option_map (change_site s f)) (λ cell. cell_with cell (update (sites_of_cell cell) s f)) by
+  where
+    by : (cell : Option Agent) → option_map (change_site s f) cell ≡ cell_with cell (update (sites_of_cell cell) s f)
+    by None = refl
+    by (Some a) = refl
+
+pub site_in-with_agent_site_same : (m : List (Option Agent)) (c s : ℕ) (f : AgentSite → AgentSite) → site_in (with_agent_site m c s f) c s ≡ option_map f (site_in m c s)
+site_in-with_agent_site_same m c s f =
+    site_in-grid (with_agent_site m c s f) c s ∙ ap (λ k. at_both sites_of_cell k c s) (with_agent_site-grid m c s f)
+    ∙ at_both-change_same sites_of_cell cell_with sites_of_cell-update m c s f ∙ ap (option_map f) (sym (site_in-grid m c s))
 
 pub site_in-with_agent_site_other : (m : List (Option Agent)) (c s d t : ℕ) (f : AgentSite → AgentSite) → (c ≡ d → s ≢ t) → site_in (with_agent_site m c s f) d t ≡ site_in m d t
-unfolding site_in agent_in
-site_in-with_agent_site_other [] c s d t f ne = refl
-site_in-with_agent_site_other (None ∷ m) zero s zero t f ne = refl
-site_in-with_agent_site_other (Some a ∷ m) zero s zero t f ne = slice_get-update_other a.sites s t f (ne refl)
-site_in-with_agent_site_other (cell ∷ m) zero s (suc d) t f ne = refl
-site_in-with_agent_site_other (cell ∷ m) (suc c) s zero t f ne = refl
-site_in-with_agent_site_other (cell ∷ m) (suc c) s (suc d) t f ne = site_in-with_agent_site_other m c s d t f (λ e. ne (ap suc e))
+site_in-with_agent_site_other m c s d t f ne =
+    site_in-grid (with_agent_site m c s f) d t ∙ ap (λ k. at_both sites_of_cell k d t) (with_agent_site-grid m c s f)
+    ∙ at_both-change_other sites_of_cell cell_with sites_of_cell-update m c s d t f ne ∙ sym (site_in-grid m d t)
 
 partner_of_changed : (o : Option AgentSite) (p : Option (ℕ × ℕ)) → IsSome o → (q : Option AgentSite) → q ≡ option_map (λ (x : AgentSite). record x { partner = p }) o → option_and_then (λ (x : AgentSite). x.partner) q ≡ p
 partner_of_changed None p some q e = absurd cc
@@ -84,7 +111,7 @@ partner_in-with_partner_other m c s d t p ne = rw (site_in-with_agent_site_other
 pub HasAgentSite-with_partner : (m : List (Option Agent)) (c s d t : ℕ) (p : Option (ℕ × ℕ)) → HasAgentSite m d t → HasAgentSite (with_partner m c s p) d t
 unfolding with_partner
 HasAgentSite-with_partner m c s d t p has =
-    elim (same_site_or_not c s d t) [
+    elim (same_both_or_not c s d t) [
       | inl e ↦ let there : HasAgentSite m c s = rw (e.0, e.1) has in
           rw (← e.0, ← e.1) (rw (site_in-with_agent_site_same m c s (λ x. record x { partner = p })) (some_mapped (site_in m c s) there))
       | inr ne ↦ rw (site_in-with_agent_site_other m c s d t (λ x. record x { partner = p }) ne) has
@@ -101,7 +128,7 @@ state_keeps_partner (Some x) u q e = rw e
 pub partner_in-with_agent_state : (m : List (Option Agent)) (c s u d t : ℕ) → partner_in (with_agent_state m c s u) d t ≡ partner_in m d t
 unfolding partner_in with_agent_state
 partner_in-with_agent_state m c s u d t =
-    elim (same_site_or_not c s d t) [
+    elim (same_both_or_not c s d t) [
       | inl e ↦ rw (← e.0, ← e.1) (state_keeps_partner (site_in m c s) u _ (site_in-with_agent_site_same m c s (λ x. record x { state = Some u })))
       | inr ne ↦ rw (site_in-with_agent_site_other m c s d t (λ x. record x { state = Some u }) ne)
     ]
@@ -162,9 +189,9 @@ module _ (m : List (Option Agent)) (c s d t : ℕ) (first : HasAgentSite m c s) 
 
   pub partner_in-with_joined : (k u : ℕ) → ((c ≡ k) × (s ≡ u)) ⊎ (((d ≡ k) × (t ≡ u)) ⊎ (partner_in (with_joined m c s d t) k u ≡ partner_in m k u))
   partner_in-with_joined k u =
-      elim (same_site_or_not c s k u) [
+      elim (same_both_or_not c s k u) [
         | inl e ↦ inl e
-        | inr ne ↦ elim (same_site_or_not d t k u) [
+        | inr ne ↦ elim (same_both_or_not d t k u) [
           | inl e ↦ inr (inl e)
           | inr ne' ↦ inr (inr (partner_in-with_partner_other (with_partner m c s (Some (d, t))) d t k u (Some (c, s)) ne' ∙ partner_in-with_partner_other m c s k u (Some (d, t)) ne))
         ]
@@ -249,7 +276,4 @@ with_agent_site-slice_set m c s a d x has is =
 -- a change by the same value is the same
 pub with_agent_site-same : (m : List (Option Agent)) (c s : ℕ) (x : AgentSite) (f h : AgentSite → AgentSite) → site_in m c s ≡ Some x → f x ≡ h x → with_agent_site m c s f ≡ with_agent_site m c s h
 with_agent_site-same m c s x f h is e =
-    let agent = has_agent m c s x is in
-    let with_sites : List AgentSite → Option Agent = λ xs. Some (record agent.0 { sites = xs }) in
-    update-same m c (Some agent.0) (option_map (change_site s f)) (option_map (change_site s h)) (cell_at m c agent.0 agent.1)
-    (ap with_sites (update-same agent.0.sites s x f h agent.2 e))
+    with_agent_site-grid m c s f ∙ change-same sites_of_cell cell_with m c s x f h (sym (site_in-grid m c s) ∙ is) e ∙ sym (with_agent_site-grid m c s h)

@@ -7,11 +7,12 @@ use Rattle.kasa_graph.specs.declared.pattern.LinkTest.TheVariants.{To}
 use Rattle.kasa_graph.specs.declared.pattern.Node.{Node}
 use Rattle.kasa_graph.specs.declared.mixture.Agent.{Agent}
 use Rattle.kasa_graph.specs.Signature.{TypeEntry}
-use Rattle.kasa_graph.specs.Lists.{AllDifferent}
+use Rattle.kasa_lists.specs.Lists.{AllDifferent}
 use Rattle.kasa_graph.specs.Pattern.{blank_node, link_test, state_test, types_of, with_link, with_state, with_bond, HasNodeSite}
 use Rattle.kasa_graph.specs.Mixture.{type_in, state_in, partner_in}
 use Rattle.kasa_graph.specs.Embedding.{IsEmbedding, MeetsState, MeetsLink}
-use Rattle.kasa_graph.proofs.PatternLemmas.{same_site_or_not, link_test-with_link_same, link_test-with_link_other, link_test-with_state, HasNodeSite-with_link}
+use Rattle.kasa_lists.proofs.Numbers.{same_both_or_not}
+use Rattle.kasa_graph.proofs.PatternLemmas.{link_test-with_link_same, link_test-with_link_other, link_test-with_state, HasNodeSite-with_link}
 use Rattle.kasa_graph.proofs.TestLemmas.{agent_at-types, agent_at-same, length-types, types_of-with_state, types_of-with_link, types_of-blank, state_test-with_link, state_test-with_state_same, state_test-with_state_other, state_test-blank, link_test-blank}
 
 -- nodes without tests lie wherever their types do
@@ -38,7 +39,7 @@ module _ (g : List Node) (m : List (Option Agent)) (cells : List ℕ) (at : IsEm
   -- a changed test that is met
   pub IsEmbedding-with_state : (n s : ℕ) (t : StateTest) → HasNodeSite g n s → ((c : ℕ) → slice_get cells n ≡ Some c → MeetsState (state_in m c s) t) → IsEmbedding (with_state g n s t) m cells
   IsEmbedding-with_state n s t has met = IsEmbedding-same_types (with_state g n s t) (types_of-with_state g n s t)
-      (λ k c u here. elim (same_site_or_not n s k u) [
+      (λ k c u here. elim (same_both_or_not n s k u) [
         | inl e ↦ rw (← e.0, ← e.1) (rw (state_test-with_state_same g n s t has) (met c (rw e.0 here)))
         | inr ne ↦ rw (state_test-with_state_other g n s k u t ne) (at.states k c u here)
       ])
@@ -47,7 +48,7 @@ module _ (g : List Node) (m : List (Option Agent)) (cells : List ℕ) (at : IsEm
   pub IsEmbedding-with_link : (n s : ℕ) (t : LinkTest) → HasNodeSite g n s → ((c : ℕ) → slice_get cells n ≡ Some c → MeetsLink m cells (partner_in m c s) t) → IsEmbedding (with_link g n s t) m cells
   IsEmbedding-with_link n s t has met = IsEmbedding-same_types (with_link g n s t) (types_of-with_link g n s t)
       (λ k c u here. rw (state_test-with_link g n s t k u) (at.states k c u here))
-      (λ k c u here. elim (same_site_or_not n s k u) [
+      (λ k c u here. elim (same_both_or_not n s k u) [
         | inl e ↦ rw (← e.0, ← e.1) (rw (link_test-with_link_same g n s t has) (met c (rw e.0 here)))
         | inr ne ↦ rw (link_test-with_link_other g n s k u t ne) (at.links k c u here)
       ])

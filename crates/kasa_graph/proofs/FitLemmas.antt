@@ -9,11 +9,13 @@ use Rattle.kasa_graph.specs.declared.pattern.LinkTest.TheVariants.{Any, Bound}
 use Rattle.kasa_graph.specs.declared.pattern.SiteTests.{SiteTests}
 use Rattle.kasa_graph.specs.declared.pattern.Node.{Node}
 use Rattle.kasa_graph.specs.declared.mixture.Agent.{Agent}
-use Rattle.kasa_graph.specs.Lists.{Has, AllDifferent}
+use Rattle.kasa_lists.specs.Lists.{Has, AllDifferent}
 use Rattle.kasa_graph.specs.Pattern.{agent_at, site_at, state_test, link_test}
 use Rattle.kasa_graph.specs.Mixture.{type_in, state_in, partner_in}
 use Rattle.kasa_graph.specs.Embedding.{MeetsState, MeetsLink, FitsCell, IsEmbedding}
-use Rattle.kasa_graph.proofs.ListLemmas.{same_or_not, some_at, some_map, below_or}
+use Rattle.kasa_lists.proofs.Numbers.{same_or_not, below_or}
+use Rattle.kasa_lists.proofs.Options.{some_map}
+use Rattle.kasa_lists.proofs.Elements.{some_at}
 
 -- ---- different cells
 
@@ -76,12 +78,6 @@ AllDifferent-below xs n all different i j x at_i at_j =
     let within_i = slice_get_within xs i x at_i in
     let within_j = slice_get_within xs j x at_j in
     different i j x (omega arith) (omega arith) at_i at_j
-
-pub not_AllDifferent : (xs : List ℕ) (n y : ℕ) → slice_get xs n ≡ Some y → Has (take n xs) y → AllDifferent xs → ⊥
-not_AllDifferent xs n y here has different =
-    let below = take_within xs n has.0 y has.1 in
-    let same = different has.0 n y (sym (slice_get-take xs n has.0 below) ∙ has.1) here in
-    omega arith
 
 -- ---- tests that are met
 

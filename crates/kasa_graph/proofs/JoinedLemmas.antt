@@ -10,7 +10,9 @@ use Rattle.kasa_graph.specs.declared.pattern.LinkTest.TheVariants.{Any, Free, Bo
 use Rattle.kasa_graph.specs.Pattern.{link_test}
 use Rattle.kasa_graph.specs.Mixture.{partner_in, shift_partner, beside, IsMixture}
 use Rattle.kasa_graph.specs.Embedding.{IsEmbedding, MeetsLink}
-use Rattle.kasa_graph.proofs.ListLemmas.{some_map, some_at, below_or}
+use Rattle.kasa_lists.proofs.Numbers.{below_or}
+use Rattle.kasa_lists.proofs.Options.{some_map}
+use Rattle.kasa_lists.proofs.Elements.{some_at}
 use Rattle.kasa_graph.proofs.BesideLemmas.{type_in-beside_left, state_in-beside_left, partner_in-beside_left, type_in-beside_right, state_in-beside_right, partner_in-beside_right, partner_of_right, partner_in-within}
 
 -- each node but the first has a bond to an earlier one

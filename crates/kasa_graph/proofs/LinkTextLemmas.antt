@@ -6,7 +6,8 @@ use Rattle.kasa_graph.specs.declared.pattern.LinkTest.TheVariants.{Any, Free, Bo
 use Rattle.kasa_graph.specs.declared.pattern.Node.{Node}
 use Rattle.kasa_graph.specs.Signature.{TypeEntry, type_names, site_names, IsNameByte, IsSignature}
 use Rattle.kasa_graph.specs.PatternText.{bond_number, name_at, link_text, tests_link}
-use Rattle.kasa_graph.proofs.SplitLemmas.{AllByRecursion-append, AllByRecursion-weaker, split-same, IsInside}
+use Rattle.kasa_lists.proofs.Every.{AllByRecursion-append, AllByRecursion-weaker}
+use Rattle.kasa_graph.proofs.SplitLemmas.{split-same, IsInside}
 use Rattle.kasa_graph.proofs.NameTextLemmas.{name_at-bytes, name_at-same, name_at-some, no_name_byte, no_closing, decimal-bytes, decimal-same, decimal-no_underscore}
 
 -- ---- bytes of names and brackets are no commas

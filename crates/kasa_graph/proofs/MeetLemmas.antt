@@ -9,10 +9,11 @@ use Rattle.kasa_graph.specs.declared.pattern.SiteTests.{SiteTests}
 use Rattle.kasa_graph.specs.declared.pattern.Node.{Node}
 use Rattle.kasa_graph.specs.declared.refine.Test.{Test}
 use Rattle.kasa_graph.specs.declared.refine.Test.TheVariants.{State, Link}
-use Rattle.kasa_graph.specs.Lists.{update}
+use Rattle.kasa_lists.specs.Lists.{update}
 use Rattle.kasa_graph.specs.Pattern.{agent_at, state_test, link_test, types_of, with_site, with_state, with_link, with_bond, HasNodeSite, IsNoBond, IsPattern, StateImplies, LinkImplies, Implies}
 use Rattle.kasa_graph.specs.Meet.{HasTest, untested, untested_site, untested_node, IsMeet, HasNoMeet, with_test}
-use Rattle.kasa_graph.proofs.PatternLemmas.{same_site_or_not, link_test-with_link_same, link_test-with_link_other, link_test-with_state, IsPattern-with_link, IsPattern-with_bond, IsPattern-same_links}
+use Rattle.kasa_lists.proofs.Numbers.{same_both_or_not}
+use Rattle.kasa_graph.proofs.PatternLemmas.{link_test-with_link_same, link_test-with_link_other, link_test-with_state, IsPattern-with_link, IsPattern-with_bond, IsPattern-same_links}
 use Rattle.kasa_graph.proofs.TestLemmas.{agent_at-same, types_of-with_state, types_of-with_link, types_of-with_bond, state_test-with_link, state_test-with_state_same, state_test-with_state_other, state_test-with_bond, link_test-with_bond_first, link_test-with_bond_second, link_test-with_bond_other}
 
 -- ---- implied tests
@@ -143,7 +144,7 @@ module _ (g : List Node) (ok : IsPattern g) (n s : ℕ) where
         linked = IsPattern-same_links g (with_state g n s t) (link_test-with_state g n s t) ok;
         implies = record {
           types = types_of-with_state g n s t;
-          states = λ k u. elim (same_site_or_not n s k u) [
+          states = λ k u. elim (same_both_or_not n s k u) [
             | inl e ↦ rw (← e.0, ← e.1) (rw (state_test-with_state_same g n s t here) stronger)
             | inr ne ↦ rw (state_test-with_state_other g n s k u t ne) (StateImplies-refl (state_test g k u))
           ];
@@ -153,7 +154,7 @@ module _ (g : List Node) (ok : IsPattern g) (n s : ℕ) where
       };
       general = λ h refined. record {
         types = refined.implies.types ∙ sym (types_of-with_state g n s t);
-        states = λ k u. elim (same_site_or_not n s k u) [
+        states = λ k u. elim (same_both_or_not n s k u) [
           | inl e ↦ rw (← e.0, ← e.1) (rw (state_test-with_state_same g n s t here) refined.tested)
           | inr ne ↦ rw (state_test-with_state_other g n s k u t ne) (refined.implies.states k u)
         ];
@@ -170,7 +171,7 @@ module _ (g : List Node) (ok : IsPattern g) (n s : ℕ) where
         implies = record {
           types = types_of-with_link g n s t;
           states = λ k u. rw (state_test-with_link g n s t k u) (StateImplies-refl (state_test g k u));
-          links = λ k u. elim (same_site_or_not n s k u) [
+          links = λ k u. elim (same_both_or_not n s k u) [
             | inl e ↦ rw (← e.0, ← e.1) (rw (link_test-with_link_same g n s t here) (LinkImplies-same_types g (with_link g n s t) (types_of-with_link g n s t) t (link_test g n s) stronger))
             | inr ne ↦ rw (link_test-with_link_other g n s k u t ne) (LinkImplies-refl (with_link g n s t) (link_test g k u))
           ];
@@ -180,7 +181,7 @@ module _ (g : List Node) (ok : IsPattern g) (n s : ℕ) where
       general = λ h refined. record {
         types = refined.implies.types ∙ sym (types_of-with_link g n s t);
         states = λ k u. rw (state_test-with_link g n s t k u) (refined.implies.states k u);
-        links = λ k u. elim (same_site_or_not n s k u) [
+        links = λ k u. elim (same_both_or_not n s k u) [
           | inl e ↦ rw (← e.0, ← e.1) (rw (link_test-with_link_same g n s t here) refined.tested)
           | inr ne ↦ rw (link_test-with_link_other g n s k u t ne) (refined.implies.links k u)
         ];
@@ -204,9 +205,9 @@ module _ (g : List Node) (ok : IsPattern g) (n s : ℕ) where
         general = λ h refined. record {
           types = refined.implies.types ∙ sym (types_of-with_bond g n s m t);
           states = λ k u. rw (state_test-with_bond g n s m t k u) (refined.implies.states k u);
-          links = λ k u. elim (same_site_or_not n s k u) [
+          links = λ k u. elim (same_both_or_not n s k u) [
             | inl e ↦ rw (← e.0, ← e.1) (rw (link_test-with_bond_first g n s m t here differ) refined.tested)
-            | inr ne ↦ elim (same_site_or_not m t k u) [
+            | inr ne ↦ elim (same_both_or_not m t k u) [
               | inl e ↦
                   let back = refined.linked.both_ways n s m t (To_implied h (link_test h n s) m t refined.tested) in
                   rw (← e.0, ← e.1) (rw (link_test-with_bond_second g n s m t there, back) (LinkImplies-refl h (To n s)))
@@ -217,9 +218,9 @@ module _ (g : List Node) (ok : IsPattern g) (n s : ℕ) where
       }
         where
           implied : (k u : ℕ) → LinkImplies (with_bond g n s m t) (link_test (with_bond g n s m t) k u) (link_test g k u)
-          implied k u = elim (same_site_or_not n s k u) [
+          implied k u = elim (same_both_or_not n s k u) [
             | inl e ↦ rw (← e.0, ← e.1) (rw (link_test-with_bond_first g n s m t here differ) (LinkImplies-same_types g (with_bond g n s m t) (types_of-with_bond g n s m t) (To m t) (link_test g n s) stronger))
-            | inr ne ↦ elim (same_site_or_not m t k u) [
+            | inr ne ↦ elim (same_both_or_not m t k u) [
               | inl e ↦ rw (← e.0, ← e.1) (rw (link_test-with_bond_second g n s m t there) (LinkImplies-same_types g (with_bond g n s m t) (types_of-with_bond g n s m t) (To n s) (link_test g m t) stronger_there))
               | inr ne' ↦ rw (link_test-with_bond_other g n s m t k u ne ne') (LinkImplies-refl (with_bond g n s m t) (link_test g k u))
             ]
@@ -239,9 +240,6 @@ module _ (g : List Node) (ok : IsPattern g) (n s : ℕ) where
       ]
 
   -- a site is not bound to itself
-  pub HasNoMeet-itself : (m t : ℕ) → n ≡ m → s ≡ t → HasNoMeet g n s (Link (To m t))
-  HasNoMeet-itself m t e f k refined = refined.linked.apart n s (rw (← e, ← f) at (To_implied k (link_test k n s) m t refined.tested))
-
   -- the other end of the bond asks for something else
   pub HasNoMeet-far : (m t : ℕ) → (LinkImplies g (To n s) (link_test g m t) → ⊥) → HasNoMeet g n s (Link (To m t))
   HasNoMeet-far m t against k refined =

@@ -8,7 +8,8 @@ use Rattle.kasa_graph.specs.declared.mixture.AgentSite.{AgentSite}
 use Rattle.kasa_graph.specs.Signature.{TypeEntry}
 use Rattle.kasa_graph.specs.Signature.{state_counts, HasSite}
 use Rattle.kasa_graph.specs.Mixture.{agent_in, type_in, site_in, partner_in, IsMixtureOver}
-use Rattle.kasa_graph.proofs.ListLemmas.{some_map, some_then, some_at}
+use Rattle.kasa_lists.proofs.Options.{some_map, some_then}
+use Rattle.kasa_lists.proofs.Elements.{some_at}
 
 module _ (sig : List TypeEntry) (m : List (Option Agent)) (over : IsMixtureOver sig m) where
   -- a cell of a type has each site of the type, with its number of states

@@ -4,12 +4,13 @@ use Rattle.std.specs.Prelude.{◌≢◌, ◌⊎◌, Option, Some, None, slice_ge
 use Rattle.std.proofs.lemmas.Option.{slice_get-map}
 use Rattle.kasa_graph.specs.declared.mixture.Agent.{Agent}
 use Rattle.kasa_graph.specs.declared.mixture.AgentSite.{AgentSite}
-use Rattle.kasa_graph.specs.Lists.{update}
+use Rattle.kasa_lists.specs.Lists.{update}
 use Rattle.kasa_graph.specs.Signature.{TypeEntry, state_counts, HasSite}
 use Rattle.kasa_graph.specs.Mixture.{agent_in, type_in, site_in, partner_in, HasAgentSite, IsAgentSite, IsMixtureOver, first_site, first_agent, change_site, with_partner, with_joined}
-use Rattle.kasa_graph.proofs.ListLemmas.{same_or_not, some_map, slice_get-update_same, slice_get-update_other}
-use Rattle.kasa_graph.proofs.PatternLemmas.{same_site_or_not}
-use Rattle.kasa_graph.proofs.NewNameLemmas.{at_push}
+use Rattle.kasa_lists.proofs.Numbers.{same_or_not, same_both_or_not}
+use Rattle.kasa_lists.proofs.Options.{some_map}
+use Rattle.kasa_lists.proofs.Elements.{at_push}
+use Rattle.kasa_lists.proofs.Updates.{slice_get-update_same, slice_get-update_other}
 use Rattle.kasa_graph.proofs.CellLemmas.{agent_in-at, cell_at, has_agent, HasAgentSite-of, site_in-with_agent_site_same, site_in-with_agent_site_other, partner_in-push, IsMixture-same_partners, IsMixture-with_joined}
 use Rattle.kasa_graph.proofs.MixtureLemmas.{site_of_type}
 
@@ -97,7 +98,7 @@ module _ (p : Option (ℕ × ℕ)) where
   AreAgents-with_partner sig m c s old = record {
     types = λ d a is. let b = agent_in-with_partner m c s d a is in rw (← b.2) (old.types d b.0 b.1);
     sites = λ d a is. let b = agent_in-with_partner m c s d a is in sym b.3 ∙ old.sites d b.0 b.1 ∙ ap (state_counts sig) b.2;
-    states = λ d t x is. state d t x is (same_site_or_not c s d t);
+    states = λ d t x is. state d t x is (same_both_or_not c s d t);
   }
     where
       state : (d t : ℕ) (x : AgentSite) → site_in (with_partner m c s p) d t ≡ Some x → ((c ≡ d) × (s ≡ t)) ⊎ (c ≡ d → s ≢ t) → IsAgentSite x

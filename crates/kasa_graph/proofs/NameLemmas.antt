@@ -11,10 +11,10 @@ use Rattle.std.proofs.lemmas.Bool.Decides.{Decides-eqb, nat_tests}
 use Rattle.std.proofs.lemmas.Slice.Eq.{slice_eq-Decides}
 use Rattle.indexmap.specs.IndexMap.{insert_entry}
 use Rattle.indexmap.specs.IndexSet.{insert_key}
-use Rattle.kasa_graph.specs.Lists.{Has}
+use Rattle.kasa_lists.specs.Lists.{Has}
 use Rattle.kasa_graph.specs.Signature.{SiteEntry, TypeEntry, sites_of, state_names, state_counts, type_names, site_names, HasSite, HasState}
-use Rattle.kasa_graph.proofs.ListLemmas.{some_at}
-use Rattle.kasa_graph.proofs.SignatureLemmas.{length-map}
+use Rattle.kasa_lists.proofs.Elements.{some_at}
+use Rattle.kasa_lists.proofs.Maps.{length-map}
 use Rattle.kasa_graph.specs.SignatureView.{StateSet, SiteMap, name_bytes, site_entry, type_entry}
 
 -- whether a key is the name

@@ -9,7 +9,7 @@ use Rattle.std.proofs.lemmas.Bool.Decides.{nat_tests}
 use Rattle.std.specs.Prelude.{unwrap_or}
 use Rattle.kasa_graph.specs.Signature.{AreNames, IsNameByte}
 use Rattle.kasa_graph.specs.PatternText.{name_at}
-use Rattle.kasa_graph.proofs.ListLemmas.{some_at}
+use Rattle.kasa_lists.proofs.Elements.{some_at}
 
 -- ---- names
 

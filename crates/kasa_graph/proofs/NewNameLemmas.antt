@@ -1,30 +1,14 @@
 -- A signature with one more name is one still.
 use Rattle.std.proofs.Common.{◌≡◌, ◌≢◌, ◌<◌, ◌⊎◌, inl, inr, ℕ, zero, suc, List, [], ◌∷◌, ◌++◌, length, map, refl, sym, ap, subst, ◌∙◌, arith, Some, slice_get, length-append}
 use Rattle.std.specs.Option.{option_map_or}
-use Rattle.kasa_graph.specs.Lists.{update, Has, AllDifferent}
+use Rattle.kasa_lists.specs.Lists.{update, Has}
 use Rattle.kasa_graph.specs.Signature.{SiteEntry, TypeEntry, sites_of, state_names, type_names, site_names, with_new_type, with_new_site, with_state_name, with_new_state, IsName, AreNames, IsSignature}
-use Rattle.kasa_graph.proofs.ListLemmas.{same_or_not, slice_get-update_same, slice_get-update_other, some_at}
-use Rattle.kasa_graph.proofs.SignatureLemmas.{map-push, length-map}
-
--- an element of a list with one more is an element before, or the new one
-pub at_push : {X : Type 0} (xs : List X) (y x : X) (i : ℕ) → slice_get (xs ++ y ∷ []) i ≡ Some x → (slice_get xs i ≡ Some x) ⊎ ((i ≡ length xs) × (y ≡ x))
-at_push [] y x zero at = inr (refl, cc)
-at_push [] y x (suc i) at = absurd (none i at)
-  where
-    none : (k : ℕ) → slice_get [] k ≡ Some x → ⊥
-    none zero h = cc
-    none (suc k) h = cc
-at_push (z ∷ xs) y x zero at = inl at
-at_push (z ∷ xs) y x (suc i) at = elim (at_push xs y x i at) [ inl e ↦ inl e | inr e ↦ inr (ap suc e.0, e.1) ]
-
-pub AllDifferent-push : {X : Type 0} (xs : List X) (y : X) → AllDifferent xs → ¬ Has xs y → AllDifferent (xs ++ y ∷ [])
-AllDifferent-push xs y different absent i j x p q = by (at_push xs y x i p) (at_push xs y x j q)
-  where
-    by : (slice_get xs i ≡ Some x) ⊎ ((i ≡ length xs) × (y ≡ x)) → (slice_get xs j ≡ Some x) ⊎ ((j ≡ length xs) × (y ≡ x)) → i ≡ j
-    by (inl a) (inl b) = different i j x a b
-    by (inl a) (inr b) = absurd (absent (i, rw (b.1) a))
-    by (inr a) (inl b) = absurd (absent (j, rw (a.1) b))
-    by (inr a) (inr b) = a.0 ∙ sym b.0
+pub use Rattle.kasa_lists.proofs.Elements.{at_push}
+pub use Rattle.kasa_lists.proofs.Different.{AllDifferent-push}
+use Rattle.kasa_lists.proofs.Numbers.{same_or_not}
+use Rattle.kasa_lists.proofs.Elements.{some_at}
+use Rattle.kasa_lists.proofs.Updates.{slice_get-update_same, slice_get-update_other}
+use Rattle.kasa_lists.proofs.Maps.{map-push, length-map}
 
 AreNames-push : (most : ℕ) (names : List (List ℕ)) (name : List ℕ) → AreNames most names → ¬ Has names name → IsName name → length names < most → AreNames most (names ++ name ∷ [])
 AreNames-push most names name old absent is_name room = record {

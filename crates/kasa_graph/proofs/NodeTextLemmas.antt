@@ -6,7 +6,7 @@ use Rattle.kasa_graph.specs.declared.pattern.StateTest.TheVariants as state
 use Rattle.kasa_graph.specs.declared.pattern.LinkTest.TheVariants.{Any}
 use Rattle.kasa_graph.specs.declared.pattern.SiteTests.{SiteTests}
 use Rattle.kasa_graph.specs.declared.pattern.Node.{Node}
-use Rattle.kasa_graph.specs.Lists.{map_from}
+use Rattle.kasa_lists.specs.Lists.{map_from}
 use Rattle.kasa_graph.specs.Signature.{TypeEntry, type_names, state_counts, IsNameByte, IsSignature}
 use Rattle.kasa_graph.specs.PatternText.{name_at, site_text, site_texts, comma_joined, tests_state, tests_link, is_written, node_text}
 use Rattle.kasa_graph.proofs.SplitLemmas.{split-same, IsPart, joined-same}

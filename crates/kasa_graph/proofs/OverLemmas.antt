@@ -14,8 +14,9 @@ use Rattle.kasa_graph.specs.Meet.{with_test}
 use Rattle.kasa_graph.specs.Signature.{TypeEntry, state_counts, HasSite, HasState}
 use Rattle.kasa_graph.specs.Pattern.{types_of, blank_site, blank_node, agent_at, site_at, state_test, link_test, with_state, with_link, with_bond, HasNodeSite, IsNoBond, IsPattern, IsPatternOver}
 use Rattle.kasa_graph.proofs.ShapeLemmas.{IsShaped, IsShaped-with_state, IsShaped-with_link, IsShaped-with_bond, counts-blank, IsShaped-blank, agent_at-node, node_of_agent}
-use Rattle.kasa_graph.proofs.NewNameLemmas.{at_push}
-use Rattle.kasa_graph.proofs.PatternLemmas.{IsPattern-[], same_site_or_not, link_test-push_blank, link_test-with_state, link_test-with_link, link_test-with_bond, IsPattern-same_links, IsPattern-with_link, IsPattern-with_bond, HasNodeSite-with_link}
+use Rattle.kasa_lists.proofs.Numbers.{same_both_or_not}
+use Rattle.kasa_lists.proofs.Elements.{at_push}
+use Rattle.kasa_graph.proofs.PatternLemmas.{IsPattern-[], link_test-push_blank, link_test-with_state, link_test-with_link, link_test-with_bond, IsPattern-same_links, IsPattern-with_link, IsPattern-with_bond, HasNodeSite-with_link}
 use Rattle.kasa_graph.proofs.TestLemmas.{agent_at-same, agent_at-types, types_of-blank, state_test-blank, link_test-blank, types_of-with_state, types_of-with_link, types_of-with_bond, state_test-with_link, state_test-with_state_same, state_test-with_state_other, state_test-with_bond, link_test-with_bond_first, link_test-with_bond_second}
 
 -- ---- types of nodes
@@ -91,7 +92,7 @@ IsPatternOver-with_state sig g n s test over has exists = record {
   linked = IsPattern-same_links g (with_state g n s test) (link_test-with_state g n s test) over.linked;
   types = types_stay sig g (with_state g n s test) over.types (types_of-with_state g n s test);
   sites = IsShaped-with_state sig g n s test over.sites;
-  states = λ k v u a typed is. state_there k v u a (sym (agent_at-same g (with_state g n s test) (types_of-with_state g n s test) k) ∙ typed) is (same_site_or_not n s k v);
+  states = λ k v u a typed is. state_there k v u a (sym (agent_at-same g (with_state g n s test) (types_of-with_state g n s test) k) ∙ typed) is (same_both_or_not n s k v);
   partners = λ k v b y is. over.partners k v b y (sym (link_test-with_state g n s test k v) ∙ is);
 }
   where

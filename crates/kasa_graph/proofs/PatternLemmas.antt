@@ -1,5 +1,5 @@
 -- Laws of patterns: what the tests are after an update, and that links stay mutual.
-use Rattle.std.proofs.Common.{◌≡◌, ◌≢◌, ℕ, zero, suc, ◌⊎◌, inl, inr, List, [], ◌∷◌, ◌++◌, refl, ap, sym, ◌∙◌, map, ◌<◌, length}
+use Rattle.std.proofs.Common.{◌≡◌, ◌≢◌, ℕ, zero, suc, ◌⊎◌, inl, inr, List, [], ◌∷◌, ◌++◌, refl, sym, ◌∙◌, map, ◌<◌, length}
 use Rattle.std.proofs.lemmas.Option.{slice_get_within, get_or_from_slice_get, slice_get-get_or}
 use Rattle.std.specs.Prelude.{slice_index_or, slice_set}
 use Rattle.std.specs.Prelude.{Option, Some, None, IsSome, slice_get, option_map}
@@ -9,33 +9,24 @@ use Rattle.kasa_graph.specs.declared.pattern.LinkTest.TheVariants.{Any, Free, Bo
 use Rattle.kasa_graph.specs.declared.pattern.SiteTests.{SiteTests}
 use Rattle.kasa_graph.specs.declared.pattern.Node.{Node}
 use Rattle.kasa_graph.specs.Signature.{TypeEntry}
-use Rattle.kasa_graph.specs.Lists.{update}
+use Rattle.kasa_lists.specs.Lists.{update}
 use Rattle.std.specs.Option.{option_map_or}
 use Rattle.kasa_graph.specs.Signature.{state_counts}
 use Rattle.kasa_graph.specs.Pattern.{blank_site, site_at, link_test, with_site, with_link, with_state, with_bond, HasNodeSite, IsNoBond, IsPattern, blank_node}
-use Rattle.kasa_graph.proofs.ListLemmas.{same_or_not, slice_get-update_same, slice_get-update_other, slice_set-update, update-same}
+pub use Rattle.kasa_lists.proofs.Numbers.{same_both_or_not as same_site_or_not}
+use Rattle.kasa_lists.proofs.Numbers.{same_both_or_not}
+use Rattle.kasa_lists.proofs.Updates.{slice_set-update}
+use Rattle.kasa_lists.proofs.Grid.{at_both-change_same, at_both-change_other, change-same}
+
+-- ---- nodes with tests are a grid
 
 pub site_at-with_site_same : (g : List Node) (n s : ℕ) (f : SiteTests → SiteTests) → site_at (with_site g n s f) n s ≡ option_map f (site_at g n s)
 unfolding site_at
-site_at-with_site_same [] n s f = refl
-site_at-with_site_same (node ∷ g) zero s f = slice_get-update_same node.sites s f
-site_at-with_site_same (node ∷ g) (suc n) s f = site_at-with_site_same g n s f
+site_at-with_site_same g n s f = at_both-change_same (λ (node : Node). node.sites) (λ node xs. record node { sites = xs }) (λ _ _ _. refl) g n s f
 
 pub site_at-with_site_other : (g : List Node) (n s k u : ℕ) (f : SiteTests → SiteTests) → (n ≡ k → s ≢ u) → site_at (with_site g n s f) k u ≡ site_at g k u
 unfolding site_at
-site_at-with_site_other [] n s k u f ne = refl
-site_at-with_site_other (node ∷ g) zero s zero u f ne = slice_get-update_other node.sites s u f (ne refl)
-site_at-with_site_other (node ∷ g) zero s (suc k) u f ne = refl
-site_at-with_site_other (node ∷ g) (suc n) s zero u f ne = refl
-site_at-with_site_other (node ∷ g) (suc n) s (suc k) u f ne = site_at-with_site_other g n s k u f (λ e. ne (ap suc e))
-
--- one site, or two
-pub same_site_or_not : (n s k u : ℕ) → (n ≡ k) × (s ≡ u) ⊎ (n ≡ k → s ≢ u)
-same_site_or_not n s k u =
-    elim (same_or_not n k) [
-      | inl e ↦ elim (same_or_not s u) [ inl f ↦ inl (e, f) | inr ne ↦ inr (λ _. ne) ]
-      | inr ne ↦ inr (λ e. absurd (ne e))
-    ]
+site_at-with_site_other g n s k u f ne = at_both-change_other (λ (node : Node). node.sites) (λ node xs. record node { sites = xs }) (λ _ _ _. refl) g n s k u f ne
 
 link_of_changed : (o : Option SiteTests) (t : LinkTest) → IsSome o → (p : Option SiteTests) → p ≡ option_map (λ (x : SiteTests). record x { link = t }) o → (x : SiteTests) × (p ≡ Some x) × (x.link ≡ t)
 link_of_changed None t some p e = absurd cc
@@ -54,7 +45,7 @@ link_test-with_link_other g n s k u t ne = rw (site_at-with_site_other g n s k u
 -- the link tests after a change at one site: the new one there, and the old ones elsewhere
 pub link_test-with_link : (g : List Node) (n s k u : ℕ) (t : LinkTest) → HasNodeSite g n s → ((n ≡ k) × (s ≡ u) × (link_test (with_link g n s t) k u ≡ t)) ⊎ ((n ≡ k → s ≢ u) × (link_test (with_link g n s t) k u ≡ link_test g k u))
 link_test-with_link g n s k u t has =
-    elim (same_site_or_not n s k u) [
+    elim (same_both_or_not n s k u) [
       | inl e ↦ inl (e.0, e.1, rw (← e.0, ← e.1) (link_test-with_link_same g n s t has))
       | inr ne ↦ inr (ne, link_test-with_link_other g n s k u t ne)
     ]
@@ -88,7 +79,7 @@ state_keeps_link (Some x) test p e = rw e
 pub link_test-with_state : (g : List Node) (n s : ℕ) (test : StateTest) (k u : ℕ) → link_test (with_state g n s test) k u ≡ link_test g k u
 unfolding link_test with_state
 link_test-with_state g n s test k u =
-    elim (same_site_or_not n s k u) [
+    elim (same_both_or_not n s k u) [
       | inl e ↦ rw (← e.0, ← e.1) (state_keeps_link (site_at g n s) test _ (site_at-with_site_same g n s (λ x. record x { state = test })))
       | inr ne ↦ rw (site_at-with_site_other g n s k u (λ x. record x { state = test }) ne)
     ]
@@ -130,7 +121,7 @@ IsPattern-with_link g n s t ok has old new = record {
 pub HasNodeSite-with_link : (g : List Node) (n s k u : ℕ) (t : LinkTest) → HasNodeSite g k u → HasNodeSite (with_link g n s t) k u
 unfolding with_link
 HasNodeSite-with_link g n s k u t has =
-    elim (same_site_or_not n s k u) [
+    elim (same_both_or_not n s k u) [
       | inl e ↦ let there : HasNodeSite g n s = rw (e.0, e.1) has in
           let changed = link_of_changed (site_at g n s) t there _ (site_at-with_site_same g n s (λ x. record x { link = t })) in
           rw (← e.0, ← e.1) (rw changed.1 refl)
@@ -147,9 +138,9 @@ module _ (g : List Node) (n s m t : ℕ) (first : HasNodeSite g n s) (second : H
 
   pub link_test-with_bond : (k u : ℕ) → ((n ≡ k) × (s ≡ u)) ⊎ (((m ≡ k) × (t ≡ u)) ⊎ (link_test (with_bond g n s m t) k u ≡ link_test g k u))
   link_test-with_bond k u =
-      elim (same_site_or_not n s k u) [
+      elim (same_both_or_not n s k u) [
         | inl e ↦ inl e
-        | inr ne ↦ elim (same_site_or_not m t k u) [
+        | inr ne ↦ elim (same_both_or_not m t k u) [
           | inl e ↦ inr (inl e)
           | inr ne' ↦ inr (inr (link_test-with_link_other (with_link g n s (To m t)) m t k u (To n s) ne' ∙ link_test-with_link_other g n s k u (To m t) ne))
         ]
@@ -215,6 +206,4 @@ with_site-slice_set g n s d f tests has same =
 -- an update by the same value is the same
 pub with_site-same : (g : List Node) (n s : ℕ) (x : SiteTests) (f h : SiteTests → SiteTests) → site_at g n s ≡ Some x → f x ≡ h x → with_site g n s f ≡ with_site g n s h
 unfolding site_at
-with_site-same [] n s x f h at e = refl
-with_site-same (node ∷ g) zero s x f h at e = ap (λ r. record node { sites = r } ∷ g) (update-same node.sites s x f h at e)
-with_site-same (node ∷ g) (suc n) s x f h at e = ap (λ r. node ∷ r) (with_site-same g n s x f h at e)
+with_site-same g n s x f h at e = change-same (λ (node : Node). node.sites) (λ node xs. record node { sites = xs }) g n s x f h at e

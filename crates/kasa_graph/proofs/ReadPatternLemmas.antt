@@ -11,8 +11,8 @@ use Rattle.kasa_graph.specs.declared.pattern.Node.{Node}
 use Rattle.kasa_graph.specs.Signature.{SiteEntry, TypeEntry, sites_of, type_names, site_names, state_names, state_counts, HasSite, HasState, IsSignature}
 use Rattle.kasa_graph.specs.Pattern.{agent_at, site_at, state_test, link_test, IsPatternOver}
 use Rattle.kasa_graph.specs.PatternText.{stands_before, begins_bond, first_ends, first_ends_in, bond_number, pattern_text}
-use Rattle.kasa_graph.proofs.ListLemmas.{some_map}
-use Rattle.kasa_graph.proofs.SignatureLemmas.{length-map}
+use Rattle.kasa_lists.proofs.Options.{some_map}
+use Rattle.kasa_lists.proofs.Maps.{length-map}
 use Rattle.kasa_graph.proofs.BondLemmas.{place-le}
 use Rattle.kasa_graph.proofs.LinkTextLemmas.{numbered, IsRead}
 use Rattle.kasa_graph.proofs.SiteTextLemmas.{IsStateOf, IsSiteRead}

@@ -6,10 +6,12 @@ use Rattle.std.proofs.lemmas.List.{length-map}
 use Rattle.std.proofs.lemmas.Option.{slice_get-map, slice_get_within, some_pair_parts}
 use Rattle.kasa_graph.specs.declared.mixture.Agent.{Agent}
 use Rattle.kasa_graph.specs.declared.mixture.AgentSite.{AgentSite}
-use Rattle.kasa_graph.specs.Lists.{update}
+use Rattle.kasa_lists.specs.Lists.{update}
 use Rattle.kasa_graph.specs.Mixture.{agent_in, site_in, partner_in, HasAgentSite, IsMixture, change_site, with_partner, partner_without, site_without, agent_without, removed}
-use Rattle.kasa_graph.proofs.ListLemmas.{same_or_not, some_then, slice_get-update_same, slice_get-update_other, map-update_same, map-same, length-update}
-use Rattle.kasa_graph.proofs.PatternLemmas.{same_site_or_not}
+use Rattle.kasa_lists.proofs.Numbers.{same_or_not, same_both_or_not}
+use Rattle.kasa_lists.proofs.Options.{some_then}
+use Rattle.kasa_lists.proofs.Updates.{slice_get-update_same, slice_get-update_other, map-update_same, length-update}
+use Rattle.kasa_lists.proofs.Maps.{map-same}
 use Rattle.kasa_graph.proofs.CellLemmas.{cell_at, has_agent, has_partner, HasAgentSite-of, partner_in-with_partner_same, partner_in-with_partner_other}
 
 -- ---- a partner outside a cell
@@ -201,7 +203,7 @@ IsFreeing-free m cells c k d t ok is ne was = record {
     ]
 
     bound : (e u s : ℕ) → partner_in (with_partner cells d t None) e u ≡ Some (c, s) → (e ≢ c) × (k + 1 ≤ s) × (partner_in m e u ≡ Some (c, s))
-    bound e u s at = elim (same_site_or_not d t e u) [
+    bound e u s at = elim (same_both_or_not d t e u) [
       | inl same ↦ absurd (none_some (partner_in-with_partner_same cells d t None has) (rw (← same.0, ← same.1) at at))
       | inr differ ↦
           let old = was.bound e u s (sym (partner_in-with_partner_other cells d t e u None differ) ∙ at) in
@@ -209,7 +211,7 @@ IsFreeing-free m cells c k d t ok is ne was = record {
     ]
 
     left : (e u s : ℕ) → e ≢ c → k + 1 ≤ s → partner_in m e u ≡ Some (c, s) → partner_in (with_partner cells d t None) e u ≡ Some (c, s)
-    left e u s out below back = elim (same_site_or_not d t e u) [
+    left e u s out below back = elim (same_both_or_not d t e u) [
       | inl same ↦
           let both = some_pair_parts c c k s (sym (ok.both_ways c k d t is) ∙ (rw (← same.0, ← same.1) at back)) in
           absurd (let e = both.1 in omega arith)

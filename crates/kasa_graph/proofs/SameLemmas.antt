@@ -3,7 +3,8 @@ use Rattle.std.specs.Prelude.{◌≡◌, ℕ, zero, suc, ◌+◌, ◌<◌, ◌�
 use Rattle.std.specs.Cmp.Lexicographic.{pointwise}
 use Rattle.std.proofs.Common.{◌∙◌, sym, arith, refl, inl, inr}
 use Rattle.std.proofs.lemmas.Option.{slice_get_within}
-use Rattle.kasa_graph.proofs.ListLemmas.{some_at, below_or}
+use Rattle.kasa_lists.proofs.Numbers.{below_or}
+use Rattle.kasa_lists.proofs.Elements.{some_at}
 
 never : (b : Bool) → (b && false) ≡ false
 never true = refl

@@ -9,10 +9,10 @@ use Rattle.kasa_graph.specs.declared.pattern.LinkTest.TheVariants as link
 use Rattle.kasa_graph.specs.declared.pattern.LinkTest.TheVariants.{To}
 use Rattle.kasa_graph.specs.declared.pattern.SiteTests.{SiteTests}
 use Rattle.kasa_graph.specs.declared.pattern.Node.{Node}
-use Rattle.kasa_graph.specs.Lists.{update}
+use Rattle.kasa_lists.specs.Lists.{update}
 use Rattle.kasa_graph.specs.Signature.{TypeEntry, state_counts}
 use Rattle.kasa_graph.specs.Pattern.{agent_at, site_at, state_test, link_test, blank_site, blank_node, with_state, with_link, with_bond}
-use Rattle.kasa_graph.proofs.ListLemmas.{some_map, some_then}
+use Rattle.kasa_lists.proofs.Options.{some_map, some_then}
 
 -- the nodes of a pattern have just the sites of their types
 abbrev pub IsShaped : List TypeEntry → List Node → Type 0

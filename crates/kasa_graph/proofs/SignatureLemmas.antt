@@ -5,14 +5,11 @@ use Rattle.std.specs.Global.{Global}
 use Rattle.std.proofs.lemmas.Option.{slice_get-map}
 use Rattle.std.proofs.lemmas.List.{take_all}
 use Rattle.indexmap.specs.IndexMap.{set_value_at}
-use Rattle.kasa_graph.specs.Lists.{update}
+use Rattle.kasa_lists.specs.Lists.{update}
 use Rattle.kasa_graph.specs.Signature.{SiteEntry, TypeEntry, sites_of, state_names, state_counts, HasSite, AreNames, IsSignature}
 use Rattle.kasa_graph.specs.SignatureView.{StateSet, SiteMap, name_bytes, site_entry, type_entry}
-use Rattle.kasa_graph.proofs.ListLemmas.{AllDifferent-[]}
-
-pub length-map : {X Y : Type 0} (f : X → Y) (xs : List X) → length (map f xs) ≡ length xs
-length-map f [] = refl
-length-map f (x ∷ xs) = rw (length-map f xs)
+pub use Rattle.kasa_lists.proofs.Maps.{length-map, map-push}
+use Rattle.kasa_lists.proofs.Different.{AllDifferent-[]}
 
 -- no type
 pub sites_of-[] : (a : ℕ) → sites_of [] a ≡ []
@@ -147,7 +144,3 @@ counts_more sig a x k h is = rw (is, add-one) (more (sites_of sig a) x h)
 pub counts_all : (sig : List TypeEntry) (a n : ℕ) → length (sites_of sig a) ≤ n → take n (state_counts sig a) ≡ state_counts sig a
 unfolding state_counts
 counts_all sig a n h = take_all n (map (λ s. length s.states) (sites_of sig a)) (rw (length-map (λ (s : SiteEntry). length s.states) (sites_of sig a)) h)
-
-pub map-push : {X Y : Type 0} (f : X → Y) (xs : List X) (x : X) → map f (xs ++ x ∷ []) ≡ map f xs ++ f x ∷ []
-map-push f [] x = refl
-map-push f (y ∷ xs) x = ap (λ ys. f y ∷ ys) (map-push f xs x)

@@ -7,7 +7,7 @@ use Rattle.kasa_graph.specs.declared.pattern.SiteTests.{SiteTests}
 use Rattle.kasa_graph.specs.declared.pattern.Node.{Node}
 use Rattle.kasa_graph.specs.Signature.{TypeEntry, state_counts, HasSite}
 use Rattle.kasa_graph.specs.Pattern.{agent_at, site_at, HasNodeSite, IsPatternOver}
-use Rattle.kasa_graph.proofs.ListLemmas.{some_at}
+use Rattle.kasa_lists.proofs.Elements.{some_at}
 use Rattle.kasa_graph.proofs.ShapeLemmas.{agent_at-node, node_of_agent}
 use Rattle.kasa_graph.proofs.PatternLemmas.{has_node}
 

@@ -8,7 +8,8 @@ use Rattle.kasa_graph.specs.declared.pattern.SiteTests.{SiteTests}
 use Rattle.kasa_graph.specs.declared.pattern.Node.{Node}
 use Rattle.kasa_graph.specs.Signature.{TypeEntry, site_names, state_names, IsNameByte, IsSignature}
 use Rattle.kasa_graph.specs.PatternText.{name_at, state_text, link_text, site_text, tests_state, tests_link, is_written}
-use Rattle.kasa_graph.proofs.SplitLemmas.{AllByRecursion-append, split-same, IsInside, IsPart}
+use Rattle.kasa_lists.proofs.Every.{AllByRecursion-append}
+use Rattle.kasa_graph.proofs.SplitLemmas.{split-same, IsInside, IsPart}
 use Rattle.kasa_graph.proofs.NameTextLemmas.{name_at-bytes, name_at-same, name_at-some, no_opening, no_brace}
 use Rattle.kasa_graph.proofs.LinkTextLemmas.{numbered, IsRead, read_text, read_text-some, link_text-is, tests_link-numbered, untested, link-same, link-bytes, no_separator, names_inside}
 

@@ -1,15 +1,8 @@
 -- A text is split in one way where bytes of one kind end.
 use Rattle.std.proofs.Common.{◌≡◌, ◌≢◌, ℕ, List, [], ◌∷◌, ◌++◌, refl, ap, sym, ◌∙◌, append_assoc, arith}
 use Rattle.std.specs.List.{AllByRecursion}
+pub use Rattle.kasa_lists.proofs.Every.{AllByRecursion-append, AllByRecursion-weaker}
 use Rattle.kasa_graph.specs.PatternText.{comma_joined}
-
-pub AllByRecursion-append : {X : Type 0} (P : X → Type 0) (xs ys : List X) → AllByRecursion P xs → AllByRecursion P ys → AllByRecursion P (xs ++ ys)
-AllByRecursion-append P [] ys first second = second
-AllByRecursion-append P (x ∷ xs) ys first second = (first.0, AllByRecursion-append P xs ys first.1 second)
-
-pub AllByRecursion-weaker : {X : Type 0} (P Q : X → Type 0) → ((x : X) → P x → Q x) → (xs : List X) → AllByRecursion P xs → AllByRecursion Q xs
-AllByRecursion-weaker P Q weaker [] all = tt
-AllByRecursion-weaker P Q weaker (x ∷ xs) all = (weaker x all.0, AllByRecursion-weaker P Q weaker xs all.1)
 
 -- bytes of one kind, up to the first other byte
 pub split-same : (P : ℕ → Type 0) (xs ys : List ℕ) (s t : ℕ) (rest others : List ℕ) → AllByRecursion P xs → AllByRecursion P ys → ¬ P s → ¬ P t → xs ++ s ∷ rest ≡ ys ++ t ∷ others → (xs ≡ ys) × (s ≡ t) × (rest ≡ others)

@@ -13,7 +13,8 @@ use Rattle.kasa_graph.specs.declared.pattern.Node.{Node}
 use Rattle.kasa_graph.specs.Signature.{TypeEntry}
 use Rattle.kasa_graph.specs.Signature.{state_counts, HasSite}
 use Rattle.kasa_graph.specs.Pattern.{blank_site, blank_node, agent_at, site_at, link_test, state_test, types_of, with_site, with_link, with_state, with_bond, HasNodeSite}
-use Rattle.kasa_graph.proofs.PatternLemmas.{site_at-with_site_same, site_at-with_site_other, same_site_or_not, link_test-with_link_same, link_test-with_link_other, HasNodeSite-with_link}
+use Rattle.kasa_lists.proofs.Numbers.{same_both_or_not}
+use Rattle.kasa_graph.proofs.PatternLemmas.{site_at-with_site_same, site_at-with_site_other, link_test-with_link_same, link_test-with_link_other, HasNodeSite-with_link}
 
 -- ---- types
 
@@ -52,7 +53,7 @@ link_keeps_state (Some x) t p e = rw e
 pub state_test-with_link : (g : List Node) (n s : ℕ) (t : LinkTest) (k u : ℕ) → state_test (with_link g n s t) k u ≡ state_test g k u
 unfolding state_test with_link
 state_test-with_link g n s t k u =
-    elim (same_site_or_not n s k u) [
+    elim (same_both_or_not n s k u) [
       | inl e ↦ rw (← e.0, ← e.1) (link_keeps_state (site_at g n s) t _ (site_at-with_site_same g n s (λ x. record x { link = t })))
       | inr ne ↦ rw (site_at-with_site_other g n s k u (λ x. record x { link = t }) ne)
     ]
@@ -74,7 +75,7 @@ state_test-with_state_other g n s k u t ne = rw (site_at-with_site_other g n s k
 pub HasNodeSite-with_state : (g : List Node) (n s k u : ℕ) (t : StateTest) → HasNodeSite g k u → HasNodeSite (with_state g n s t) k u
 unfolding with_state
 HasNodeSite-with_state g n s k u t has =
-    elim (same_site_or_not n s k u) [
+    elim (same_both_or_not n s k u) [
       | inl e ↦ let there : HasNodeSite g n s = rw (e.0, e.1) has in
           let changed = state_of_changed (site_at g n s) t there _ (site_at-with_site_same g n s (λ x. record x { state = t })) in
           rw (← e.0, ← e.1) (rw changed.1 refl)
@@ -140,14 +141,3 @@ module _ (sig : List TypeEntry) (types : List ℕ) where
       all : (ts : List ℕ) → map (λ (node : Node). node.agent) (map (blank_node sig) ts) ≡ ts
       all [] = refl
       all (t ∷ ts) = ap (λ (rest : List ℕ). t ∷ rest) (all ts)
-
--- ---- two bonds of one node
-
-module _ (g : List Node) (n x u j y k w : ℕ) (first : HasNodeSite g n x) (second : HasNodeSite g n u) (other_first : n ≢ j) (other_second : n ≢ k) (differ : x ≢ u) where
-  pub link_test-two_bonds_first : link_test (with_bond (with_bond g n x j y) n u k w) n x ≡ To j y
-  link_test-two_bonds_first =
-      link_test-with_bond_other (with_bond g n x j y) n u k w n x (λ _ e. differ (sym e)) (λ e. absurd (other_second (sym e)))
-      ∙ link_test-with_bond_first g n x j y first (λ e. absurd (other_first e))
-
-  pub link_test-two_bonds_second : link_test (with_bond (with_bond g n x j y) n u k w) n u ≡ To k w
-  link_test-two_bonds_second = link_test-with_bond_first (with_bond g n x j y) n u k w (HasNodeSite-with_bond g n x j y n u second) (λ e. absurd (other_second e))

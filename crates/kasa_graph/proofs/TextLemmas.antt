@@ -1,5 +1,5 @@
 -- The text of a pattern, written piece by piece.
-use Rattle.std.proofs.Common.{◌≡◌, ◌∙◌, ◌<◌, ◌≤◌, ◌+◌, add-one, ◌||◌, nat_lt, ℕ, zero, suc, List, [], ◌∷◌, ◌++◌, Bool, true, false, not, if◌then◌else◌, length, refl, sym, ap, arith, Some, slice_get, get_or, take, append_assoc, codes, decimal}
+use Rattle.std.proofs.Common.{◌≡◌, ◌∙◌, ◌<◌, ◌≤◌, ◌+◌, ◌||◌, nat_lt, ℕ, suc, List, [], ◌∷◌, ◌++◌, Bool, true, false, not, if◌then◌else◌, length, refl, sym, ap, arith, Some, slice_get, get_or, take, append_assoc, codes, decimal}
 use Rattle.std.proofs.lemmas.Option.{slice_get-get_or}
 use Rattle.std.proofs.lemmas.Bool.{lt-ltb}
 use Rattle.std.proofs.lemmas.List.{append-nil, take_all}
@@ -7,13 +7,15 @@ use Rattle.kasa_graph.specs.declared.pattern.LinkTest.{LinkTest}
 use Rattle.kasa_graph.specs.declared.pattern.LinkTest.TheVariants.{Any, Free, Bound, Partner, To}
 use Rattle.kasa_graph.specs.declared.pattern.SiteTests.{SiteTests}
 use Rattle.kasa_graph.specs.declared.pattern.Node.{Node}
-use Rattle.kasa_graph.specs.Lists.{map_from}
+use Rattle.kasa_lists.specs.Lists.{map_from}
 use Rattle.kasa_graph.specs.Signature.{TypeEntry, type_names, state_counts}
 use Rattle.kasa_graph.specs.Pattern.{agent_at, site_at, link_test, IsPattern, IsPatternOver}
 use Rattle.kasa_graph.specs.PatternText.{place, stands_before, begins_bond, first_ends_in, first_ends, bond_number, name_at, link_text, site_text, site_texts, comma_joined, is_written, tests_state, tests_link, node_text, pattern_text}
 use Rattle.kasa_graph.specs.PatternTextParts.{sites_at, ends_before, node_text_at}
-use Rattle.kasa_graph.proofs.ListLemmas.{some_map, some_at}
-use Rattle.kasa_graph.proofs.SignatureLemmas.{length-map}
+pub use Rattle.kasa_lists.proofs.Elements.{take-one_more as take-next}
+use Rattle.kasa_lists.proofs.Elements.{some_at, take-one_more, length-taken}
+use Rattle.kasa_lists.proofs.Maps.{length-map, length-map_from, map_from-push}
+use Rattle.kasa_graph.proofs.ShapeLemmas.{node_of_agent}
 use Rattle.kasa_graph.proofs.BondLemmas.{bond_number-is, seen-is, slice_get-sites_at}
 
 -- ---- a link
@@ -33,21 +35,6 @@ seen_bond g n s m t keys new is h seen e =
     by : (b : Bool) → (if not b then keys else keys ++ (n, s) ∷ []) ≡ keys ++ (if b then (n, s) ∷ [] else [])
     by true = refl
     by false = sym (append-nil keys)
-
--- ---- one more element of a list
-
-take-suc_at : {X : Type 0} (xs : List X) (i : ℕ) (x : X) → slice_get xs i ≡ Some x → take (suc i) xs ≡ take i xs ++ x ∷ []
-take-suc_at [] i x at = absurd cc
-take-suc_at (y ∷ xs) zero x at = let same : y ≡ x = cc in rw same refl
-take-suc_at (y ∷ xs) (suc i) x at = ap (λ ys. y ∷ ys) (take-suc_at xs i x at)
-
-pub take-next : {X : Type 0} (xs : List X) (i : ℕ) (x : X) → slice_get xs i ≡ Some x → take (i + 1) xs ≡ take i xs ++ x ∷ []
-take-next xs i x at = rw (add-one i) (take-suc_at xs i x at)
-
-length-taken : {X : Type 0} (xs : List X) (i : ℕ) (x : X) → slice_get xs i ≡ Some x → 0 + length (take i xs) ≡ i
-length-taken [] i x at = absurd cc
-length-taken (y ∷ xs) zero x at = refl
-length-taken (y ∷ xs) (suc i) x at = let rest = length-taken xs i x at in omega arith
 
 -- there is an element
 abbrev pub is_some_list : {X : Type 0} → List X → Bool
@@ -74,14 +61,6 @@ first_ends-push : (k n : ℕ) (g : List Node) (node : Node) → k + length g ≡
 first_ends-push k n [] node e = let same : k ≡ n = omega arith in rw same (append-nil _)
 first_ends-push k n (y ∷ g) node e = ap (λ ends. first_ends_in k 0 y.sites ++ ends) (first_ends-push (suc k) n g node (omega arith)) ∙ simp append_assoc
 
-map_from-push : {X Y : Type 0} (f : ℕ → X → Y) (k n : ℕ) (xs : List X) (x : X) → k + length xs ≡ n → map_from k f (xs ++ x ∷ []) ≡ map_from k f xs ++ f n x ∷ []
-map_from-push f k n [] x e = let same : k ≡ n = omega arith in rw same refl
-map_from-push f k n (y ∷ xs) x e = ap (λ ys. f k y ∷ ys) (map_from-push f (suc k) n xs x (omega arith))
-
-length-map_from : {X Y : Type 0} (f : ℕ → X → Y) (k : ℕ) (xs : List X) → length (map_from k f xs) ≡ length xs
-length-map_from f k [] = refl
-length-map_from f k (x ∷ xs) = ap suc (length-map_from f (suc k) xs)
-
 -- ---- the sites of a node
 
 module _ (sig : List TypeEntry) (g : List Node) (n a : ℕ) where
@@ -100,10 +79,10 @@ module _ (sig : List TypeEntry) (g : List Node) (n a : ℕ) where
 
   module _ (sites : List SiteTests) (s : ℕ) (x : SiteTests) (at : slice_get sites s ≡ Some x) where
     texts : site_texts sig g n a 0 (take (s + 1) sites) ≡ site_texts sig g n a 0 (take s sites) ++ (if is_written x then site_text sig g n a s x ∷ [] else [])
-    texts = ap (site_texts sig g n a 0) (take-next sites s x at) ∙ site_texts-push 0 s (take s sites) x (length-taken sites s x at)
+    texts = ap (site_texts sig g n a 0) (take-one_more sites s x at) ∙ site_texts-push 0 s (take s sites) x (length-taken sites s x at)
 
     firsts_next : first_ends_in n 0 (take (s + 1) sites) ≡ first_ends_in n 0 (take s sites) ++ (if begins_bond n s x.link then (n, s) ∷ [] else [])
-    firsts_next = ap (first_ends_in n 0) (take-next sites s x at) ∙ first_ends_in-push n 0 s (take s sites) x (length-taken sites s x at)
+    firsts_next = ap (first_ends_in n 0) (take-one_more sites s x at) ∙ first_ends_in-push n 0 s (take s sites) x (length-taken sites s x at)
 
     pub site_written : (old out comma new : List ℕ) (seen firsts after : List (ℕ × ℕ)) (any : Bool) → SitesWritten sites s old out seen firsts any → true ≡ is_written x →
         comma ≡ out ++ (if any then 44 ∷ [] else []) → new ≡ comma ++ site_text sig g n a s x → after ≡ firsts ++ (if begins_bond n s x.link then (n, s) ∷ [] else []) →
@@ -164,27 +143,23 @@ sites_are g n tests same = by tests (sites_at g n) (λ s. sym (same s) ∙ sym (
     by (x ∷ xs) [] same = let first = same 0 in absurd cc
     by (x ∷ xs) (y ∷ ys) same = let first = same 0 in let here : x ≡ y = cc in rw here (ap (λ zs. y ∷ zs) (by xs ys (λ s. same (suc s))))
 
-node_of : (g : List Node) (n a : ℕ) → agent_at g n ≡ Some a → (node : Node) × (slice_get g n ≡ Some node) × (node.agent ≡ a)
-unfolding agent_at
-node_of g n a h = some_map (λ (node : Node). node.agent) (slice_get g n) a h
-
 pub count_sites : (sig : List TypeEntry) (g : List Node) (n a : ℕ) → IsPatternOver sig g → agent_at g n ≡ Some a → length (sites_at g n) ≡ length (state_counts sig a)
 count_sites sig g n a over h =
-    let node = node_of g n a h in
+    let node = node_of_agent g n a h in
     let sites : sites_at g n ≡ node.0.sites = rw node.1 in
     rw sites (sym (length-map (λ (x : SiteTests). x.states) node.0.sites) ∙ ap length (over.sites n node.0 node.1) ∙ ap (λ b. length (state_counts sig b)) node.2)
 
 pub node_text_at-is : (sig : List TypeEntry) (g : List Node) (n a : ℕ) → agent_at g n ≡ Some a →
     node_text_at sig g n ≡ name_at (type_names sig) a ++ codes "(" ++ comma_joined (site_texts sig g n a 0 (sites_at g n)) ++ codes ")"
 node_text_at-is sig g n a h =
-    let node = node_of g n a h in
+    let node = node_of_agent g n a h in
     rw (node.1, node.2)
 
 pub ends_next : (g : List Node) (n a : ℕ) → agent_at g n ≡ Some a → first_ends 0 (take (n + 1) g) ≡ first_ends 0 (take n g) ++ first_ends_in n 0 (sites_at g n)
 ends_next g n a h =
-    let node = node_of g n a h in
+    let node = node_of_agent g n a h in
     let sites : sites_at g n ≡ node.0.sites = rw node.1 in
-    rw sites (ap (first_ends 0) (take-next g n node.0 node.1) ∙ first_ends-push 0 n (take n g) node.0 (length-taken g n node.0 node.1))
+    rw sites (ap (first_ends 0) (take-one_more g n node.0 node.1) ∙ first_ends-push 0 n (take n g) node.0 (length-taken g n node.0 node.1))
 
 -- the text of the nodes before n + 1
 pub nodes_written : (sig : List TypeEntry) (g : List Node) (n : ℕ) → n < length g →
@@ -192,9 +167,9 @@ pub nodes_written : (sig : List TypeEntry) (g : List Node) (n : ℕ) → n < len
 nodes_written sig g n h =
     let node = some_at g n h in
     let some : is_some_list (map_from 0 (node_text sig g) (take n g)) ≡ nat_lt 0 n =
-    is_some_list-length (map_from 0 (node_text sig g) (take n g)) ∙ ap (nat_lt 0) (length-map_from (node_text sig g) 0 (take n g) ∙ (let e = length-taken g n node.0 node.1 in omega arith)) in
+    is_some_list-length (map_from 0 (node_text sig g) (take n g)) ∙ ap (nat_lt 0) (length-map_from (node_text sig g) (take n g) 0 ∙ (let e = length-taken g n node.0 node.1 in omega arith)) in
     let text : node_text_at sig g n ≡ node_text sig g n node.0 = rw node.1 in
-    ap (λ nodes. comma_joined (map_from 0 (node_text sig g) nodes)) (take-next g n node.0 node.1)
+    ap (λ nodes. comma_joined (map_from 0 (node_text sig g) nodes)) (take-one_more g n node.0 node.1)
     ∙ ap comma_joined (map_from-push (node_text sig g) 0 n (take n g) node.0 (length-taken g n node.0 node.1))
     ∙ comma_joined-push (map_from 0 (node_text sig g) (take n g)) (node_text sig g n node.0)
     ∙ rw (some, text)

@@ -6,7 +6,7 @@ use Rattle.kasa_graph.specs.declared.pattern.LinkTest.{LinkTest}
 use Rattle.kasa_graph.specs.declared.pattern.LinkTest.TheVariants.{Any, Free, Bound, Partner, To}
 use Rattle.kasa_graph.specs.declared.pattern.Node.{Node}
 use Rattle.kasa_graph.specs.declared.mixture.Agent.{Agent}
-use Rattle.kasa_graph.specs.Lists.{AllDifferent}
+use Rattle.kasa_lists.specs.Lists.{AllDifferent}
 use Rattle.kasa_graph.specs.Pattern.{agent_at, state_test, link_test}
 use Rattle.kasa_graph.specs.Mixture.{type_in, state_in, partner_in}
 

@@ -8,7 +8,7 @@ use Rattle.kasa_graph.specs.declared.pattern.LinkTest.TheVariants.{Any, Free, Bo
 use Rattle.kasa_graph.specs.declared.pattern.SiteTests.{SiteTests}
 use Rattle.kasa_graph.specs.declared.pattern.Node.{Node}
 use Rattle.kasa_graph.specs.Signature.{TypeEntry}
-use Rattle.kasa_graph.specs.Lists.{update}
+use Rattle.kasa_lists.specs.Lists.{update}
 use Rattle.kasa_graph.specs.Signature.{state_counts, HasSite, HasState}
 
 -- ---- what a pattern says

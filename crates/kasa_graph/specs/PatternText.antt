@@ -7,7 +7,7 @@ use Rattle.kasa_graph.specs.declared.pattern.LinkTest.{LinkTest}
 use Rattle.kasa_graph.specs.declared.pattern.LinkTest.TheVariants.{Any, Free, Bound, Partner, To}
 use Rattle.kasa_graph.specs.declared.pattern.SiteTests.{SiteTests}
 use Rattle.kasa_graph.specs.declared.pattern.Node.{Node}
-use Rattle.kasa_graph.specs.Lists.{map_from}
+use Rattle.kasa_lists.specs.Lists.{map_from}
 use Rattle.kasa_graph.specs.Signature.{TypeEntry, type_names, site_names, state_names}
 
 -- ---- bonds are numbered from 1 in the order in which they first stand in the text

@@ -2,7 +2,8 @@
 use Rattle.std.specs.Prelude.{◌≡◌, ℕ, ◌<◌, ◌≤◌, ◌⊎◌, List, [], ◌∷◌, ◌++◌, length, map, Some, slice_get}
 use Rattle.std.specs.Option.{option_map_or}
 use Rattle.std.specs.List.{AllByRecursion}
-use Rattle.kasa_graph.specs.Lists.{update, AllDifferent}
+use Rattle.kasa_num.specs.declared.limits.TheConstants.{MAX_NAME_BYTES, MAX_TYPES, MAX_SITES, MAX_STATES}
+use Rattle.kasa_lists.specs.Lists.{update, AllDifferent}
 
 -- a site: its name, and the names of its states
 pub record SiteEntry : Type 0 where
@@ -64,10 +65,10 @@ with_new_state sig a x name = update sig a (λ t. record t { sites = with_state_
 abbrev pub IsNameByte : ℕ → Type 0
 IsNameByte b = ((65 ≤ b) × (b ≤ 90)) ⊎ ((97 ≤ b) × (b ≤ 122)) ⊎ ((48 ≤ b) × (b ≤ 57)) ⊎ (b ≡ 95)
 
--- 1 to 63 such bytes
+-- such bytes, and not too many
 pub record IsName (name : List ℕ) : Type 0 where
   pub some : 0 < length name
-  pub few : length name ≤ 63
+  pub few : length name ≤ MAX_NAME_BYTES
   pub bytes : AllByRecursion IsNameByte name
 
 -- different names, at most so many
@@ -76,8 +77,8 @@ pub record AreNames (most : ℕ) (names : List (List ℕ)) : Type 0 where
   pub few : length names ≤ most
   pub are_names : (k : ℕ) (name : List ℕ) → slice_get names k ≡ Some name → IsName name
 
--- at most 500 types, 32 sites of a type and 32 states of a site, each with names of their own
+-- types, the sites of a type and the states of a site are within their limits, each with names of their own
 pub record IsSignature (sig : List TypeEntry) : Type 0 where
-  pub types : AreNames 500 (type_names sig)
-  pub sites : (a : ℕ) → AreNames 32 (site_names sig a)
-  pub states : (a x : ℕ) → AreNames 32 (state_names sig a x)
+  pub types : AreNames MAX_TYPES (type_names sig)
+  pub sites : (a : ℕ) → AreNames MAX_SITES (site_names sig a)
+  pub states : (a x : ℕ) → AreNames MAX_STATES (state_names sig a x)

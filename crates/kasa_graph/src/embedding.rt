@@ -1,6 +1,6 @@
 // Embeddings of patterns in mixtures.
 ghost use Rattle.std.specs.Prelude.{◌≡◌, ℕ, ◌<◌, ◌↔◌, IsTrue, length, Some, slice_get};
-ghost use Rattle.kasa_graph.specs.Lists.{AllDifferent, Has};
+ghost use Rattle.kasa_lists.specs.Lists.{AllDifferent, Has};
 ghost use Rattle.kasa_graph.specs.Mixture.{state_in, partner_in};
 ghost use Rattle.kasa_graph.specs.Embedding.{MeetsState, MeetsLink, FitsCell, IsEmbedding};
 

@@ -1,7 +1,7 @@
 // Mixtures: cells with agents whose sites have states and partners.
 ghost use Rattle.std.specs.Prelude.{◌≡◌, ◌≢◌, ℕ, ◌+◌, ◌<◌, ◌≤◌, ◌^◌, [], ◌∷◌, ◌++◌, length, map, Option, Some, None, IsSome, IsTrue, IfOk, OnErr, slice_get, slice_set};
 ghost use Rattle.std.specs.Option.{option_copied};
-ghost use Rattle.kasa_graph.specs.Lists.{update};
+ghost use Rattle.kasa_lists.specs.Lists.{update};
 ghost use Rattle.kasa_graph.specs.Signature.{state_counts};
 ghost use Rattle.kasa_graph.specs.Mixture.{agent_in, type_in, site_in, state_in, partner_in, HasAgentSite, IsMixture, first_state, first_site, first_agent, with_agent_site, with_agent_state, with_partner, with_joined, removed};
 

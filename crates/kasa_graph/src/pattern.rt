@@ -4,6 +4,7 @@ ghost use Rattle.kasa_graph.specs.Pattern.{agent_at, site_at, with_site, state_t
 ghost use Rattle.kasa_graph.specs.Signature.{state_counts};
 
 use crate::Signature;
+use kasa_num::limits::MAX_NODES;
 use kasa_num::{AgentType, NoMemory, NodeNo, SiteNo, StateNo};
 use smallvec::SmallVec;
 use std::alloc::Global;
@@ -91,11 +92,12 @@ impl Model for Pattern {
 
     ghost Value = { List Node };
 
+    ghost use Rattle.kasa_num.specs.declared.limits.TheConstants.{MAX_NODES};
     ghost use Rattle.kasa_graph.specs.Pattern.{IsPattern};
 
     ghost view = { λ p. p.nodes.items };
 
-    ghost invariant = { λ p. IsPattern p.nodes.items × (length p.nodes.items ≤ 1000) };
+    ghost invariant = { λ p. IsPattern p.nodes.items × (length p.nodes.items ≤ MAX_NODES) };
 }
 
 impl PartialEq for Pattern {
@@ -263,7 +265,7 @@ impl Pattern {
     /// How many nodes there are, at most 1,000.
     pub fn nodes(&self) -> usize
         ensures count { result ≡ length self.now }
-        ensures few { result ≤ 1000 }
+        ensures few { result ≤ MAX_NODES }
     {
         self.nodes.len()
     }
@@ -321,7 +323,7 @@ impl Pattern {
     /// Appends a node of a type, without tests.
     pub fn add_node(&mut self, sig: &Signature, agent: AgentType) -> Result<NodeNo, NoMemory>
         requires known { agent < length sig.now }
-        requires room { length self.old < 1000 }
+        requires room { length self.old < MAX_NODES }
         ensures ok { IfOk result (λ n. (n ≡ length self.old) × (self.new ≡ self.old ++ blank_node sig.now agent ∷ [])) }
         ensures err { OnErr result (self.new ≡ self.old) }
     {

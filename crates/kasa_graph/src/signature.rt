@@ -2,12 +2,13 @@
 ghost use Rattle.std.specs.Prelude.{◌≡◌, ℕ, ◌+◌, ◌<◌, ◌≤◌, ◌↔◌, [], length, Some, slice_get, map, option_map, IsTrue, MatchOption, IfSome, IfOk, OnOk, OnErr};
 ghost use Rattle.std.specs.Option.{option_map_or};
 ghost use Rattle.std.specs.Cmp.Lexicographic.{pointwise};
-ghost use Rattle.kasa_graph.specs.Lists.{Has};
+ghost use Rattle.kasa_lists.specs.Lists.{Has};
 ghost use Rattle.kasa_graph.specs.SignatureView.{name_bytes, site_entry, type_entry};
 ghost use Rattle.kasa_graph.specs.SameNames.{same_name, same_site, same_type};
 ghost use Rattle.kasa_graph.specs.Signature.{SiteEntry, TypeEntry, sites_of, state_counts, state_names, type_names, site_names, HasSite, with_new_type, with_new_site, with_state_name, with_new_state, IsName, IsNameByte, IsSignature};
 
 use indexmap::{IndexMap, IndexSet};
+use kasa_num::limits::{MAX_NAME_BYTES, MAX_SITES, MAX_STATES, MAX_TYPES};
 use kasa_num::{AgentType, NoMemory, SiteNo, StateNo};
 use std::alloc::Global;
 use std::marker::Model;
@@ -118,7 +119,7 @@ impl Signature {
     /// How many types there are, at most 500.
     pub fn types(&self) -> usize
         ensures count { result ≡ length self.now }
-        ensures few { result ≤ 500 }
+        ensures few { result ≤ MAX_TYPES }
         ensures valid { IsSignature self.now }
     {
         self.types.len()
@@ -128,7 +129,7 @@ impl Signature {
     pub fn sites(&self, agent: AgentType) -> usize
         ensures count { result ≡ length (sites_of self.now agent) }
         ensures counts { result ≡ length (state_counts self.now agent) }
-        ensures few { result ≤ 32 }
+        ensures few { result ≤ MAX_SITES }
     {
         match self.sites_by_name(agent) {
             None => 0,
@@ -139,7 +140,7 @@ impl Signature {
     /// How many states a site has, 0 for an unknown site.
     pub fn states(&self, agent: AgentType, site: SiteNo) -> usize
         ensures count { result ≡ length (state_names self.now agent site) }
-        ensures few { result ≤ 32 }
+        ensures few { result ≤ MAX_STATES }
     {
         match self.states_by_name(agent, site) {
             None => 0,
@@ -150,7 +151,7 @@ impl Signature {
     // The sites of a type, None for an unknown type.
     fn sites_by_name(&self, agent: AgentType) -> Option<&SiteNames>
         ensures sites { sites_of self.now agent ≡ option_map_or (λ sites. map site_entry sites.now.entries) result [] }
-        ensures few { IfSome result (λ sites. length sites.now.entries ≤ 32) }
+        ensures few { IfSome result (λ sites. length sites.now.entries ≤ MAX_SITES) }
     {
         let (_, sites) = self.types.get_index(agent.0 as usize)?;
         Some(sites)
@@ -159,7 +160,7 @@ impl Signature {
     // The states of a site, None for an unknown site.
     fn states_by_name(&self, agent: AgentType, site: SiteNo) -> Option<&StateNames>
         ensures states { state_names self.now agent site ≡ option_map_or (λ states. map name_bytes states.now.keys) result [] }
-        ensures few { IfSome result (λ states. length states.now.keys ≤ 32) }
+        ensures few { IfSome result (λ states. length states.now.keys ≤ MAX_STATES) }
     {
         let (_, sites) = self.types.get_index(agent.0 as usize)?;
         let (_, states) = sites.get_index(site.0 as usize)?;
@@ -170,7 +171,7 @@ impl Signature {
     pub fn add_type(&mut self, name: &[u8]) -> Result<AgentType, NoMemory>
         requires is_new { ¬ Has (type_names self.old) name.now }
         requires is_name { IsName name.now }
-        requires room { length self.old < 500 }
+        requires room { length self.old < MAX_TYPES }
         ensures number { IfOk result (λ a. a ≡ length self.old) }
         ensures added { OnOk result (self.new ≡ with_new_type self.old name.now) }
         ensures unchanged { OnErr result (self.new ≡ self.old) }
@@ -188,7 +189,7 @@ impl Signature {
         requires owner { agent < length self.old }
         requires is_new { ¬ Has (site_names self.old agent) name.now }
         requires is_name { IsName name.now }
-        requires room { length (sites_of self.old agent) < 32 }
+        requires room { length (sites_of self.old agent) < MAX_SITES }
         ensures number { IfOk result (λ x. x ≡ length (sites_of self.old agent)) }
         ensures added { OnOk result (self.new ≡ with_new_site self.old agent name.now) }
         ensures unchanged { OnErr result (self.new ≡ self.old) }
@@ -211,7 +212,7 @@ impl Signature {
         requires owner { HasSite self.old agent site }
         requires is_new { ¬ Has (state_names self.old agent site) name.now }
         requires is_name { IsName name.now }
-        requires room { length (state_names self.old agent site) < 32 }
+        requires room { length (state_names self.old agent site) < MAX_STATES }
         ensures number { IfOk result (λ u. u ≡ length (state_names self.old agent site)) }
         ensures added { OnOk result (self.new ≡ with_new_state self.old agent site name.now) }
         ensures unchanged { OnErr result (self.new ≡ self.old) }
@@ -278,7 +279,7 @@ impl Signature {
 pub fn is_name(bytes: &[u8]) -> bool
     ensures { IsTrue result ↔ IsName bytes.now }
 {
-    !bytes.is_empty() && bytes.len() <= 63 && bytes.iter().all(|b| is_name_byte(*b))
+    !bytes.is_empty() && bytes.len() <= MAX_NAME_BYTES && bytes.iter().all(|b| is_name_byte(*b))
 }
 
 // An ASCII letter, a digit or `_`.

@@ -1,6 +1,6 @@
 // The text of a pattern, in the syntax of the Kappa manual.
 ghost use Rattle.std.specs.Prelude.{◌≡◌, ℕ, ◌+◌, ◌<◌, ◌≤◌, ◌++◌, ◌∷◌, [], List, length, take, IfOk, OnOk, OnErr, Some, nat_lt, if◌then◌else◌, codes, decimal, slice_get, option_map, unwrap_or};
-ghost use Rattle.kasa_graph.specs.Lists.{Has};
+ghost use Rattle.kasa_lists.specs.Lists.{Has};
 ghost use Rattle.kasa_graph.specs.Pattern.{site_at, agent_at, link_test, IsPattern, IsPatternOver};
 ghost use Rattle.kasa_graph.specs.PatternText.{place, begins_bond, first_ends, first_ends_in, name_at, state_text, link_text, site_text, site_texts, comma_joined, is_written, pattern_text};
 ghost use Rattle.kasa_graph.specs.PatternTextParts.{sites_at, ends_before, node_text_at};

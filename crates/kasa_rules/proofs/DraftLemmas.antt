@@ -9,9 +9,13 @@ use Rattle.kasa_graph.specs.declared.pattern.SiteTests.{SiteTests}
 use Rattle.kasa_graph.specs.declared.pattern.LinkTest.TheVariants.{Any, To}
 use Rattle.kasa_graph.specs.Signature.{SiteEntry, TypeEntry, sites_of, state_counts}
 use Rattle.kasa_graph.specs.Pattern.{agent_at, site_at, link_test, HasNodeSite, IsPattern, IsPatternOver}
-use Rattle.kasa_graph.proofs.ListLemmas.{same_or_not, some_map, some_then, slice_get-update_other, length-update, pushed_or, slice_get-pushed, take-next}
+use Rattle.kasa_lists.proofs.Numbers.{same_or_not}
+use Rattle.kasa_lists.proofs.Options.{some_map, some_then, some_same}
+use Rattle.kasa_lists.proofs.Elements.{some_below, pushed_or, slice_get-pushed, take-next, some_beside}
+use Rattle.kasa_lists.proofs.Updates.{slice_get-update_other, length-update, map-update, option_map-update, option_then-update, all-update}
+use Rattle.kasa_lists.proofs.Maps.{map-push}
+use Rattle.kasa_lists.proofs.Grid.{at_both-change_same, at_both-change_other, lengths-change, then-change, map-change}
 use Rattle.kasa_graph.proofs.PatternLemmas.{node_bound}
-use Rattle.kasa_graph.proofs.SignatureLemmas.{map-push}
 use Rattle.kasa_rules.specs.declared.rule.Fate.TheVariants.{Deleted, Kept}
 use Rattle.kasa_rules.specs.declared.rule.End.{End}
 use Rattle.kasa_rules.specs.declared.rule.End.TheVariants.{Left, Made}
@@ -24,7 +28,6 @@ use Rattle.kasa_rules.specs.declared.rule.MadeAgent.{MadeAgent}
 use Rattle.kasa_rules.specs.Rule.{RuleParts, fate_at, action_at, written_state, written_link, made_type, made_site, made_link, touched, end_link, IsDraft, IsDraftOver, HasWholeBonds, HasFewAgents}
 use Rattle.kasa_graph.specs.Mixture.{first_state}
 use Rattle.kasa_rules.specs.Draft.{no_action, keep_node, new_draft, new_site, new_agent, with_made, delete_node, with_deleted, change_made, with_written_state, with_written_link, with_written_bond, HasEndSite, end_states, HasEndState, IsOpen, IsUnwritten, IsHalfBond, HasActions, HasListed}
-use Rattle.kasa_graph.proofs.ListUpdates.{map-update, option_map-update, option_then-update, all-update, at_both-change_same, at_both-change_other, lengths-change, then-change, map-change, some_beside, some_same}
 
 -- two ends are the same site, or not
 pub same_end_or_not : (e f : End) (s t : ℕ) → ((e ≡ f) × (s ≡ t)) ⊎ (e ≡ f → s ≢ t)
@@ -79,7 +82,7 @@ fate_at-link r (Made k) s w n = refl
 
 pub written_state-link : (r : RuleParts) (e : End) (s : ℕ) (w : Written) (n t : ℕ) → written_state (with_written_link r e s w) n t ≡ written_state r n t
 unfolding written_state action_at with_written_link
-written_state-link r (Left m) s w n t = then-change (λ (x : NodeAction). x.sites) (λ x ys. record x { sites = ys }) (λ _ _. refl) (λ (x : SiteAction). x.state) (λ x. record x { link = Some w }) (λ _. refl) r.actions m s n t
+written_state-link r (Left m) s w n t = then-change (λ (x : NodeAction). x.sites) (λ x ys. record x { sites = ys }) (λ _ _ _. refl) (λ (x : SiteAction). x.state) (λ x. record x { link = Some w }) (λ _. refl) r.actions m s n t
 written_state-link r (Made k) s w n t = refl
 
 link_now : (o : Option SiteAction) (w : Written) → IsSome o → option_and_then (λ (x : SiteAction). x.link) (option_map (λ (x : SiteAction). record x { link = Some w }) o) ≡ Some w
@@ -92,22 +95,22 @@ made_now (Some x) w some = refl
 
 pub end_link-link_same : (r : RuleParts) (e : End) (s : ℕ) (w : Written) → HasListed r.actions r.made e s → end_link (with_written_link r e s w) e s ≡ Some w
 unfolding written_link action_at made_site with_written_link
-end_link-link_same r (Left n) s w has = rw (at_both-change_same (λ (x : NodeAction). x.sites) (λ x ys. record x { sites = ys }) (λ _ _. refl) r.actions n s (λ x. record x { link = Some w })) (link_now _ w has)
-end_link-link_same r (Made k) s w has = rw (at_both-change_same (λ (x : MadeAgent). x.sites) (λ x ys. record x { sites = ys }) (λ _ _. refl) r.made k s (λ x. record x { link = w })) (made_now _ w has)
+end_link-link_same r (Left n) s w has = rw (at_both-change_same (λ (x : NodeAction). x.sites) (λ x ys. record x { sites = ys }) (λ _ _ _. refl) r.actions n s (λ x. record x { link = Some w })) (link_now _ w has)
+end_link-link_same r (Made k) s w has = rw (at_both-change_same (λ (x : MadeAgent). x.sites) (λ x ys. record x { sites = ys }) (λ _ _ _. refl) r.made k s (λ x. record x { link = w })) (made_now _ w has)
 
 pub end_link-link_other : (r : RuleParts) (e f : End) (s t : ℕ) (w : Written) → (e ≡ f → s ≢ t) → end_link (with_written_link r e s w) f t ≡ end_link r f t
 unfolding written_link action_at made_site with_written_link
-end_link-link_other r (Left n) (Left k) s t w ne = ap (option_and_then (λ (x : SiteAction). x.link)) (at_both-change_other (λ (x : NodeAction). x.sites) (λ x ys. record x { sites = ys }) (λ _ _. refl) r.actions n s k t (λ x. record x { link = Some w }) (λ e. ne (ap Left e)))
+end_link-link_other r (Left n) (Left k) s t w ne = ap (option_and_then (λ (x : SiteAction). x.link)) (at_both-change_other (λ (x : NodeAction). x.sites) (λ x ys. record x { sites = ys }) (λ _ _ _. refl) r.actions n s k t (λ x. record x { link = Some w }) (λ e. ne (ap Left e)))
 end_link-link_other r (Left n) (Made k) s t w ne = refl
 end_link-link_other r (Made n) (Left k) s t w ne = refl
-end_link-link_other r (Made n) (Made k) s t w ne = ap (option_map (λ (x : MadeSite). x.link)) (at_both-change_other (λ (x : MadeAgent). x.sites) (λ x ys. record x { sites = ys }) (λ _ _. refl) r.made n s k t (λ x. record x { link = w }) (λ e. ne (ap Made e)))
+end_link-link_other r (Made n) (Made k) s t w ne = ap (option_map (λ (x : MadeSite). x.link)) (at_both-change_other (λ (x : MadeAgent). x.sites) (λ x ys. record x { sites = ys }) (λ _ _ _. refl) r.made n s k t (λ x. record x { link = w }) (λ e. ne (ap Made e)))
 
 pub HasListed-link : (r : RuleParts) (e f : End) (s t : ℕ) (w : Written) → HasListed r.actions r.made f t → HasListed (with_written_link r e s w).actions (with_written_link r e s w).made f t
 unfolding with_written_link
-HasListed-link r (Left n) (Left k) s t w has = some_same (λ (_ : SiteAction). zero) _ _ (map-change (λ (x : NodeAction). x.sites) (λ x ys. record x { sites = ys }) (λ _ _. refl) (λ (_ : SiteAction). zero) (λ x. record x { link = Some w }) (λ _. refl) r.actions n s k t) has
+HasListed-link r (Left n) (Left k) s t w has = some_same (λ (_ : SiteAction). zero) _ _ (map-change (λ (x : NodeAction). x.sites) (λ x ys. record x { sites = ys }) (λ _ _ _. refl) (λ (_ : SiteAction). zero) (λ x. record x { link = Some w }) (λ _. refl) r.actions n s k t) has
 HasListed-link r (Left n) (Made k) s t w has = has
 HasListed-link r (Made n) (Left k) s t w has = has
-HasListed-link r (Made n) (Made k) s t w has = some_same (λ (_ : MadeSite). zero) _ _ (map-change (λ (x : MadeAgent). x.sites) (λ x ys. record x { sites = ys }) (λ _ _. refl) (λ (_ : MadeSite). zero) (λ x. record x { link = w }) (λ _. refl) r.made n s k t) has
+HasListed-link r (Made n) (Made k) s t w has = some_same (λ (_ : MadeSite). zero) _ _ (map-change (λ (x : MadeAgent). x.sites) (λ x ys. record x { sites = ys }) (λ _ _ _. refl) (λ (_ : MadeSite). zero) (λ x. record x { link = w }) (λ _. refl) r.made n s k t) has
 
 -- all but the links of two drafts is the same
 record SameButLinks (r q : RuleParts) : Type 0 where
@@ -128,7 +131,7 @@ SameButLinks-link : (r : RuleParts) (e : End) (s : ℕ) (w : Written) → SameBu
 unfolding with_written_link made_type made_site states_of fate_at written_state action_at
 SameButLinks-link r (Left n) s w = record {
   left = refl;
-  sites = lengths-change (λ (x : NodeAction). x.sites) (λ x ys. record x { sites = ys }) (λ _ _. refl) r.actions n s (λ x. record x { link = Some w });
+  sites = lengths-change (λ (x : NodeAction). x.sites) (λ x ys. record x { sites = ys }) (λ _ _ _. refl) r.actions n s (λ x. record x { link = Some w });
   actions = length-update r.actions n _;
   made = refl;
   fates = fate_at-link r (Left n) s w;
@@ -146,7 +149,7 @@ SameButLinks-link r (Made n) s w = record {
   states = λ k t. refl;
   made_types = λ k. option_map-update _ (λ (x : MadeAgent). x.agent) (λ _. refl) r.made n k;
   made_states = λ k t x at.
-      let same = map-change (λ (x : MadeAgent). x.sites) (λ x ys. record x { sites = ys }) (λ _ _. refl) states_of (λ x. record x { link = w }) (λ _. refl) r.made n s k t in
+      let same = map-change (λ (x : MadeAgent). x.sites) (λ x ys. record x { sites = ys }) (λ _ _ _. refl) states_of (λ x. record x { link = w }) (λ _. refl) r.made n s k t in
       let old = some_map states_of (made_site r k t) (states_of x) (sym same ∙ ap (option_map states_of) at) in
       (old.0, old.1, ap (λ (p : ℕ × Option ℕ). p.0) old.2, ap (λ (p : ℕ × Option ℕ). p.1) old.2);
   made_shapes = λ sig all. all-update (λ (x : MadeAgent). map (λ (s : MadeSite). s.states) x.sites ≡ state_counts sig x.agent) _ (λ x e. map-update (λ (y : MadeSite). record y { link = w }) (λ (y : MadeSite). y.states) (λ _. refl) x.sites s ∙ e) r.made n all;
@@ -385,10 +388,10 @@ fate_at-state r (Made k) s u n = refl
 
 pub end_link-state : (r : RuleParts) (e : End) (s u : ℕ) (f : End) (t : ℕ) → end_link (with_written_state r e s u) f t ≡ end_link r f t
 unfolding written_link action_at made_site with_written_state
-end_link-state r (Left n) s u (Left k) t = then-change (λ (x : NodeAction). x.sites) (λ x ys. record x { sites = ys }) (λ _ _. refl) (λ (x : SiteAction). x.link) (λ x. record x { state = Some u }) (λ _. refl) r.actions n s k t
+end_link-state r (Left n) s u (Left k) t = then-change (λ (x : NodeAction). x.sites) (λ x ys. record x { sites = ys }) (λ _ _ _. refl) (λ (x : SiteAction). x.link) (λ x. record x { state = Some u }) (λ _. refl) r.actions n s k t
 end_link-state r (Left n) s u (Made k) t = refl
 end_link-state r (Made n) s u (Left k) t = refl
-end_link-state r (Made n) s u (Made k) t = map-change (λ (x : MadeAgent). x.sites) (λ x ys. record x { sites = ys }) (λ _ _. refl) (λ (x : MadeSite). x.link) (λ x. record x { state = Some u }) (λ _. refl) r.made n s k t
+end_link-state r (Made n) s u (Made k) t = map-change (λ (x : MadeAgent). x.sites) (λ x ys. record x { sites = ys }) (λ _ _ _. refl) (λ (x : MadeSite). x.link) (λ x. record x { state = Some u }) (λ _. refl) r.made n s k t
 
 -- the state that is written at a site now was written there before, or is the new one
 written_state-state : (r : RuleParts) (e : End) (s u n t : ℕ) → ((e ≡ Left n) × (s ≡ t)) ⊎ (written_state (with_written_state r e s u) n t ≡ written_state r n t)
@@ -396,13 +399,13 @@ unfolding written_state action_at with_written_state
 written_state-state r (Left k) s u n t =
     elim (same_end_or_not (Left k) (Left n) s t) [
       | inl same ↦ inl same
-      | inr ne ↦ inr (ap (option_and_then (λ (x : SiteAction). x.state)) (at_both-change_other (λ (x : NodeAction). x.sites) (λ x ys. record x { sites = ys }) (λ _ _. refl) r.actions k s n t (λ x. record x { state = Some u }) (λ e. ne (ap Left e))))
+      | inr ne ↦ inr (ap (option_and_then (λ (x : SiteAction). x.state)) (at_both-change_other (λ (x : NodeAction). x.sites) (λ x ys. record x { sites = ys }) (λ _ _ _. refl) r.actions k s n t (λ x. record x { state = Some u }) (λ e. ne (ap Left e))))
     ]
 written_state-state r (Made k) s u n t = inr refl
 
 written_state-state_same : (r : RuleParts) (n s u v : ℕ) → written_state (with_written_state r (Left n) s u) n s ≡ Some v → u ≡ v
 unfolding written_state action_at with_written_state
-written_state-state_same r n s u v is = now _ (ap (option_and_then (λ (x : SiteAction). x.state)) (sym (at_both-change_same (λ (x : NodeAction). x.sites) (λ x ys. record x { sites = ys }) (λ _ _. refl) r.actions n s (λ x. record x { state = Some u }))) ∙ is)
+written_state-state_same r n s u v is = now _ (ap (option_and_then (λ (x : SiteAction). x.state)) (sym (at_both-change_same (λ (x : NodeAction). x.sites) (λ x ys. record x { sites = ys }) (λ _ _ _. refl) r.actions n s (λ x. record x { state = Some u }))) ∙ is)
   where
     now : (o : Option SiteAction) → option_and_then (λ (x : SiteAction). x.state) (option_map (λ (x : SiteAction). record x { state = Some u }) o) ≡ Some v → u ≡ v
     now None e = absurd cc
@@ -418,10 +421,10 @@ made_site-state r (Made n) s u k t x at =
           let agent : n ≡ k = cc in
           let here : option_and_then (λ (a : MadeAgent). slice_get a.sites s) (slice_get (change_made r.made n s (λ y. record y { state = Some u })) n) ≡ Some x = move_made (with_written_state r (Made n) s u) n k s t (Some x) agent same.1 at in
           let old = some_map (λ (y : MadeSite). record y { state = Some u }) (option_and_then (λ (a : MadeAgent). slice_get a.sites s) (slice_get r.made n)) x
-          (sym (at_both-change_same (λ (a : MadeAgent). a.sites) (λ a ys. record a { sites = ys }) (λ _ _. refl) r.made n s (λ y. record y { state = Some u })) ∙ here) in
+          (sym (at_both-change_same (λ (a : MadeAgent). a.sites) (λ a ys. record a { sites = ys }) (λ _ _ _. refl) r.made n s (λ y. record y { state = Some u })) ∙ here) in
           (old.0, move_made r k n t s (Some old.0) (sym agent) (sym same.1) old.1, ap (λ (y : MadeSite). y.states) old.2, inr (same.0, same.1, ap (λ (y : MadeSite). y.state) (sym old.2)))
       | inr ne ↦
-          (x, sym (at_both-change_other (λ (a : MadeAgent). a.sites) (λ a ys. record a { sites = ys }) (λ _ _. refl) r.made n s k t (λ y. record y { state = Some u }) (λ e. ne (ap Made e))) ∙ at, refl, inl refl)
+          (x, sym (at_both-change_other (λ (a : MadeAgent). a.sites) (λ a ys. record a { sites = ys }) (λ _ _ _. refl) r.made n s k t (λ y. record y { state = Some u }) (λ e. ne (ap Made e))) ∙ at, refl, inl refl)
     ]
 
 pub left-state : (r : RuleParts) (e : End) (s u : ℕ) → (with_written_state r e s u).left ≡ r.left
@@ -440,7 +443,7 @@ length_made-state r (Made n) s u = length-update r.made n _
 
 sites-state : (r : RuleParts) (e : End) (s u : ℕ) → map (λ (x : NodeAction). length x.sites) (with_written_state r e s u).actions ≡ map (λ (x : NodeAction). length x.sites) r.actions
 unfolding with_written_state
-sites-state r (Left n) s u = lengths-change (λ (x : NodeAction). x.sites) (λ x ys. record x { sites = ys }) (λ _ _. refl) r.actions n s (λ x. record x { state = Some u })
+sites-state r (Left n) s u = lengths-change (λ (x : NodeAction). x.sites) (λ x ys. record x { sites = ys }) (λ _ _ _. refl) r.actions n s (λ x. record x { state = Some u })
 sites-state r (Made n) s u = refl
 
 pub IsKept-state : (r : RuleParts) (e : End) (s u : ℕ) → IsKept r → HasEndSite r e s → HasEndState r e s u → IsKept (with_written_state r e s u)
@@ -794,11 +797,6 @@ pub half_within : (r : RuleParts) (n s : ℕ) → IsHalfBond r n s → n < lengt
 half_within r n s half = node_bound r.left n s (half_site r n s half)
 
 -- a left node of a draft has so many sites
-some_below : {X : Type 0} (xs : List X) (s : ℕ) → (s < length xs) ↔ IsSome (slice_get xs s)
-some_below [] s = (λ below. absurd (omega arith), λ some. absurd cc)
-some_below (x ∷ xs) zero = (λ below. refl, λ some. omega arith)
-some_below (x ∷ xs) (suc s) = let rest = some_below xs s in (λ below. rest.0 (omega arith), λ some. let below = rest.1 some in omega arith)
-
 sites_of_node : (g : List Node) (n : ℕ) (y : Node) (k : ℕ) → slice_get g n ≡ Some y → length y.sites ≡ k → (s : ℕ) → ((s < k) ↔ HasNodeSite g n s)
 unfolding site_at
 sites_of_node g n y k at long s = rw (at, ← long) (some_below y.sites s)

@@ -6,6 +6,8 @@ use Rattle.std.proofs.lemmas.Option.{slice_get-map}
 use Rattle.kasa_graph.specs.declared.mixture.Agent.{Agent}
 use Rattle.kasa_graph.specs.declared.mixture.AgentSite.{AgentSite}
 use Rattle.kasa_graph.specs.Mixture.{agent_in, type_in, site_in, state_in, partner_in}
+pub use Rattle.kasa_graph.proofs.CellLemmas.{has_agent as agent_of_site}
+use Rattle.kasa_graph.proofs.CellLemmas.{has_agent}
 use Rattle.kasa_graph.proofs.BesideLemmas.{agent_in-within, partner_in-within}
 use Rattle.kasa_rules.specs.declared.rule.Fate.{Fate}
 use Rattle.kasa_rules.specs.declared.rule.Fate.TheVariants.{Deleted, Kept}
@@ -14,8 +16,9 @@ use Rattle.kasa_rules.specs.declared.rule.MadeSite.{MadeSite}
 use Rattle.kasa_rules.specs.declared.rule.MadeAgent.{MadeAgent}
 use Rattle.kasa_rules.specs.Rule.{RuleParts, made_type, made_site, made_state, made_link}
 use Rattle.kasa_rules.specs.Firing.{fire, fate_on, state_on, link_on, cell_after, agent_after, site_after, made_after, made_site_after, unless_deleted, state_after, partner_after, target}
-use Rattle.kasa_graph.proofs.ListLemmas.{some_map, some_then}
-use Rattle.kasa_rules.proofs.FiringLemmas.{slice_get-fire_old, slice_get-fire_new, slice_get-map_from, partner_in-fire_new}
+use Rattle.kasa_lists.proofs.Options.{some_map, some_then}
+use Rattle.kasa_lists.proofs.Maps.{slice_get-map_from}
+use Rattle.kasa_rules.proofs.FiringLemmas.{slice_get-fire_old, slice_get-fire_new, partner_in-fire_new}
 
 -- ---- living cells are cells
 
@@ -25,10 +28,6 @@ agent_of_type m c b e = some_map (λ (a : Agent). a.agent) (agent_in m c) b e
 
 pub type_within : (m : List (Option Agent)) (c b : ℕ) → type_in m c ≡ Some b → c < length m
 type_within m c b e = let a = agent_of_type m c b e in agent_in-within m c a.0 a.1
-
-pub agent_of_site : (m : List (Option Agent)) (c s : ℕ) (x : AgentSite) → site_in m c s ≡ Some x → (a : Agent) × (agent_in m c ≡ Some a) × (slice_get a.sites s ≡ Some x)
-unfolding site_in
-agent_of_site m c s x e = some_then (λ (a : Agent). slice_get a.sites s) (agent_in m c) x e
 
 pub site_of_partner : (m : List (Option Agent)) (c s d t : ℕ) → partner_in m c s ≡ Some (d, t) → (x : AgentSite) × (site_in m c s ≡ Some x) × (x.partner ≡ Some (d, t))
 unfolding partner_in
@@ -44,7 +43,7 @@ type_of_agent m c a e = rw e refl
 pub type_of_partner : (m : List (Option Agent)) (c s d t : ℕ) → partner_in m c s ≡ Some (d, t) → (b : ℕ) × (type_in m c ≡ Some b)
 type_of_partner m c s d t e =
     let x = site_of_partner m c s d t e in
-    let a = agent_of_site m c s x.0 x.1 in
+    let a = has_agent m c s x.0 x.1 in
     (a.0.agent, type_of_agent m c a.0 a.1)
 
 -- ---- after a firing

@@ -3,8 +3,12 @@ use Rattle.std.proofs.Common.{◌≡◌, ◌≢◌, ℕ, zero, suc, ◌+◌, ◌
 use Rattle.std.proofs.lemmas.List.{length-map}
 use Rattle.std.specs.Prelude.{Option, Some, None, slice_get, option_map, option_and_then}
 use Rattle.std.proofs.lemmas.Option.{slice_get-map, slice_get_within}
-use Rattle.kasa_graph.proofs.ListLemmas.{some_map, some_then, some_at, slice_get-append_left, slice_get-append_right, below_or}
-use Rattle.kasa_graph.specs.Lists.{map_from, AllDifferent}
+pub use Rattle.kasa_lists.proofs.Maps.{slice_get-map_from}
+use Rattle.kasa_lists.proofs.Maps.{length-map_from}
+use Rattle.kasa_lists.proofs.Numbers.{below_or}
+use Rattle.kasa_lists.proofs.Options.{some_map, some_then}
+use Rattle.kasa_lists.proofs.Elements.{some_at, slice_get-append_left, slice_get-append_right}
+use Rattle.kasa_lists.specs.Lists.{map_from, AllDifferent}
 use Rattle.kasa_graph.specs.declared.mixture.Agent.{Agent}
 use Rattle.kasa_graph.specs.declared.mixture.AgentSite.{AgentSite}
 use Rattle.kasa_graph.specs.Mixture.{agent_in, type_in, site_in, partner_in}
@@ -26,15 +30,6 @@ use Rattle.kasa_graph.specs.Mixture.{IsMixture, IsMixtureOver}
 use Rattle.kasa_graph.specs.Embedding.{IsEmbedding}
 use Rattle.std.specs.Option.{option_map_or}
 use Rattle.kasa_rules.specs.Firing.{fire, end_cell, partner_at, unless, kept_partner, touched_on, found_or, node_on, fate_on, link_on, cell_after, agent_after, site_after, made_after, made_site_after, unless_deleted, target, partner_after}
-
-pub slice_get-map_from : {X Y : Type 0} (f : ℕ → X → Y) (xs : List X) (k i j : ℕ) → k + i ≡ j → slice_get (map_from k f xs) i ≡ option_map (f j) (slice_get xs i)
-slice_get-map_from f [] k i j e = refl
-slice_get-map_from f (x ∷ xs) k zero j e = let same : k ≡ j = omega arith in rw same refl
-slice_get-map_from f (x ∷ xs) k (suc i) j e = slice_get-map_from f xs (suc k) i j (omega arith)
-
-pub length-map_from : {X Y : Type 0} (f : ℕ → X → Y) (xs : List X) (k : ℕ) → length (map_from k f xs) ≡ length xs
-length-map_from f [] k = refl
-length-map_from f (x ∷ xs) k = ap suc (length-map_from f xs (suc k))
 
 -- the cells that were there before, and those of the created agents
 pub slice_get-fire_old : (r : RuleParts) (cells : List ℕ) (m : List (Option Agent)) (c : ℕ) → c < length m → slice_get (fire r cells m) c ≡ option_map (cell_after r cells (length m) c) (slice_get m c)

@@ -1,39 +1,18 @@
 -- Where a draft may be changed.
-use Rattle.std.proofs.Common.{◌≡◌, ℕ, zero, ◌<◌, List, [], ◌∷◌, ◌++◌, length, map, arith, refl, ap, sym, ◌∙◌, false}
+use Rattle.std.proofs.Common.{◌≡◌, ℕ, zero, List, [], ◌∷◌, ◌++◌, length, map, arith, refl, ap, sym, ◌∙◌}
 use Rattle.std.specs.Prelude.{Option, Some, None, IsSome, slice_get, option_map}
 use Rattle.std.proofs.lemmas.Option.{slice_get-map}
 use Rattle.kasa_graph.specs.declared.pattern.Node.{Node}
 use Rattle.kasa_graph.specs.declared.pattern.SiteTests.{SiteTests}
 use Rattle.kasa_graph.specs.Signature.{TypeEntry, state_counts, HasSite, HasState}
 use Rattle.kasa_graph.specs.Pattern.{agent_at, site_at, HasNodeSite, IsPatternOver}
-use Rattle.kasa_graph.proofs.ListLemmas.{some_at, slice_get-append_right}
-use Rattle.kasa_graph.proofs.PatternLemmas.{node_bound}
-use Rattle.kasa_rules.specs.declared.rule.Fate.{Fate}
-use Rattle.kasa_rules.specs.declared.rule.Fate.TheVariants.{Deleted, Kept}
-use Rattle.kasa_rules.specs.declared.rule.End.{End}
+use Rattle.kasa_lists.proofs.Elements.{some_at, slice_get-append_right}
 use Rattle.kasa_rules.specs.declared.rule.End.TheVariants.{Left, Made}
-use Rattle.kasa_rules.specs.declared.rule.Written.{Written}
-use Rattle.kasa_rules.specs.declared.rule.Written.TheVariants.{To}
-use Rattle.kasa_rules.specs.Rule.{RuleParts, fate_at, action_at, written_state, written_link, touches, touched, made_site, made_link, IsDraft}
-use Rattle.kasa_rules.specs.Draft.{new_draft, new_site, new_agent, with_made, with_written_link, with_written_bond, HasEndSite, HasEndState, IsOpen, IsUnwritten}
-use Rattle.kasa_rules.proofs.DraftLemmas.{HasListed-link, new_written, site_count}
-
-has_fate : (r : RuleParts) (n : ℕ) → n < length r.actions → (f : Fate) × (fate_at r n ≡ Some f)
-unfolding fate_at
-has_fate r n within = let x = some_at r.actions n within in (x.0.fate, rw x.1 refl)
+use Rattle.kasa_rules.specs.Rule.{RuleParts, action_at, written_state, written_link, made_site, made_link}
+use Rattle.kasa_rules.specs.Draft.{new_draft, new_site, new_agent, with_made, HasEndSite, HasEndState, IsOpen, IsUnwritten}
+use Rattle.kasa_rules.proofs.DraftLemmas.{new_written, site_count}
 
 -- a link may be written at a site that isn't touched
-pub untouched_is_open : (r : RuleParts) (n s : ℕ) → IsDraft r → HasNodeSite r.left n s → touched r n s ≡ false → HasEndSite r (Left n) s × IsOpen r (Left n) s
-unfolding touched
-untouched_is_open r n s ok has not =
-    let fate = has_fate r n (rw ok.actions (node_bound r.left n s has)) in
-    by fate.0 fate.1 (written_link r n s) refl (rw fate.1 at not)
-  where
-    by : (f : Fate) → fate_at r n ≡ Some f → (o : Option Written) → written_link r n s ≡ o → touches (Some f) (written_link r n s) ≡ false → HasEndSite r (Left n) s × IsOpen r (Left n) s
-    by Deleted e o is gone = absurd cc
-    by Kept e None is gone = ((e, has), is)
-    by Kept e (Some w) is gone = absurd (let some : touches (Some Kept) (Some w) ≡ false = rw is at gone in cc)
-
 -- nothing is written on the nodes of a new draft
 pub IsUnwritten-new : (name : List ℕ) (left : List Node) (n : ℕ) → IsUnwritten (new_draft name left) n
 unfolding new_draft written_state written_link action_at
@@ -60,11 +39,4 @@ made_is_open sig r a k s last has =
     (rw (agent, site) refl, rw (agent, site) refl)
 
 -- a written bond leaves the created sites
-pub made_site-bond : (r : RuleParts) (e f : End) (s t k u : ℕ) → IsSome (made_site r k u) → IsSome (made_site (with_written_bond r e s f t) k u)
-unfolding made_site
-made_site-bond r e f s t k u has = HasListed-link (with_written_link r e s (To f t)) f (Made k) t u (To e s) (HasListed-link r e (Made k) s u (To f t) has)
-
 -- .. and the left pattern
-pub left-bond : (r : RuleParts) (e f : End) (s t : ℕ) → (with_written_bond r e s f t).left ≡ r.left
-unfolding with_written_link
-left-bond r e f s t = refl

@@ -2,7 +2,7 @@
 use Rattle.std.proofs.Common.{◌≡◌, ℕ, ◌<◌, refl, ◌∙◌, length}
 use Rattle.std.specs.Prelude.{Option, Some, None, IsSome, slice_get, slice_index_or, option_and_then}
 use Rattle.std.proofs.lemmas.Option.{slice_get_within, get_or_from_slice_get, slice_get-get_or}
-use Rattle.kasa_graph.proofs.ListLemmas.{some_map}
+use Rattle.kasa_lists.proofs.Options.{some_map}
 use Rattle.kasa_rules.specs.declared.rule.Fate.{Fate}
 use Rattle.kasa_rules.specs.declared.rule.SiteAction.{SiteAction}
 use Rattle.kasa_rules.specs.declared.rule.NodeAction.{NodeAction}

@@ -2,7 +2,7 @@
 use Rattle.std.proofs.Common.{◌≡◌, ℕ, zero, suc, ◌<◌, ◌⊎◌, inl, inr, List, [], ◌∷◌, refl, sym, ap, ◌∙◌, length, arith, subst}
 use Rattle.std.specs.Prelude.{Option, Some, None, IsSome, slice_get, map, option_map, option_and_then}
 use Rattle.std.proofs.lemmas.Option.{slice_get-map, slice_get_within}
-use Rattle.kasa_graph.specs.Lists.{map_from}
+use Rattle.kasa_lists.specs.Lists.{map_from}
 use Rattle.kasa_graph.specs.declared.pattern.Node.{Node}
 use Rattle.kasa_graph.specs.declared.mixture.Agent.{Agent}
 use Rattle.kasa_graph.specs.declared.mixture.AgentSite.{AgentSite}
@@ -17,8 +17,11 @@ use Rattle.kasa_rules.specs.declared.rule.MadeSite.{MadeSite}
 use Rattle.kasa_rules.specs.declared.rule.MadeAgent.{MadeAgent}
 use Rattle.kasa_rules.specs.Rule.{RuleParts, written_state, made_type, made_site, IsRuleOver}
 use Rattle.kasa_rules.specs.Firing.{fire, fate_on, state_on, node_on, cell_after, agent_after, site_after, made_after, made_site_after, unless_deleted, state_after}
-use Rattle.kasa_graph.proofs.ListLemmas.{some_map, some_then, some_at, below_or}
-use Rattle.kasa_rules.proofs.FiringLemmas.{slice_get-fire_old, slice_get-fire_new, slice_get-map_from, node_on-found, IsMixture-fire}
+use Rattle.kasa_lists.proofs.Numbers.{below_or}
+use Rattle.kasa_lists.proofs.Options.{some_map, some_then}
+use Rattle.kasa_lists.proofs.Elements.{some_at}
+use Rattle.kasa_lists.proofs.Maps.{slice_get-map_from}
+use Rattle.kasa_rules.proofs.FiringLemmas.{slice_get-fire_old, slice_get-fire_new, node_on-found, IsMixture-fire}
 
 states_after : (r : RuleParts) (cells : List ℕ) (first c k : ℕ) (sites : List AgentSite) → map (λ (x : AgentSite). x.states) (map_from k (site_after r cells first c) sites) ≡ map (λ (x : AgentSite). x.states) sites
 states_after r cells first c k [] = refl

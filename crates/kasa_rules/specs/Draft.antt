@@ -1,8 +1,9 @@
 -- Drafts of rules: what each change makes of a draft, and where it may be made.
 use Rattle.std.specs.Prelude.{◌≡◌, ℕ, ◌<◌, ◌≤◌, ◌⊎◌, true, false, List, [], ◌∷◌, ◌++◌, length, map, replicate, Option, Some, None, IsSome, slice_get, option_map, option_and_then}
+use Rattle.kasa_num.specs.declared.limits.TheConstants.{MAX_SITES}
 use Rattle.kasa_graph.specs.declared.pattern.Node.{Node}
 use Rattle.kasa_graph.specs.declared.pattern.LinkTest.TheVariants.{To}
-use Rattle.kasa_graph.specs.Lists.{update}
+use Rattle.kasa_lists.specs.Lists.{update}
 use Rattle.kasa_graph.specs.Signature.{TypeEntry}
 use Rattle.kasa_graph.specs.Signature.{state_counts}
 use Rattle.kasa_graph.specs.Mixture.{first_state}
@@ -119,10 +120,10 @@ ComesBefore n s k u = (n < k) ⊎ ((n ≡ k) × (s < u))
 
 -- ---- what the lists of every draft keep
 
--- an action at just the sites of the left nodes, which have at most 32 each
+-- an action at just the sites of the left nodes, within their limit
 pub record HasActions (r : RuleParts) : Type 0 where
   pub sites : map (λ x. length x.sites) r.actions ≡ map (λ x. length x.sites) r.left
-  pub few_sites : (n : ℕ) (x : Node) → slice_get r.left n ≡ Some x → length x.sites ≤ 32
+  pub few_sites : (n : ℕ) (x : Node) → slice_get r.left n ≡ Some x → length x.sites ≤ MAX_SITES
 
 -- the action, or the created site, of an end is there
 abbrev pub HasListed : List NodeAction → List MadeAgent → End → ℕ → Type 0

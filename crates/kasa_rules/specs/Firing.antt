@@ -3,7 +3,7 @@ use Rattle.std.specs.Prelude.{◌≡◌, ◌≢◌, ◌⊎◌, ℕ, zero, suc, �
 use Rattle.std.specs.Option.{option_map_or}
 use Rattle.kasa_graph.specs.declared.mixture.Agent.{Agent}
 use Rattle.kasa_graph.specs.declared.mixture.AgentSite.{AgentSite}
-use Rattle.kasa_graph.specs.Lists.{map_from}
+use Rattle.kasa_lists.specs.Lists.{map_from}
 use Rattle.kasa_rules.specs.declared.rule.Fate.{Fate}
 use Rattle.kasa_rules.specs.declared.rule.Fate.TheVariants.{Deleted, Kept}
 use Rattle.kasa_rules.specs.declared.rule.End.{End}

@@ -4,6 +4,7 @@ use Rattle.std.specs.Option.{option_map_or}
 use Rattle.kasa_graph.specs.declared.mixture.Agent.{Agent}
 use Rattle.kasa_graph.specs.Mixture.{beside, IsMixtureOver}
 use Rattle.kasa_graph.specs.Embedding.{IsEmbedding}
+use Rattle.kasa_num.specs.declared.limits.TheConstants.{MAX_INITS, MAX_INIT_AGENTS, MAX_RULES}
 use Rattle.kasa_rules.specs.declared.model.Model.{Model}
 use Rattle.kasa_rules.specs.Rule.{RuleParts, IsRuleOver, HasFewAgents}
 use Rattle.kasa_rules.specs.Firing.{fire}
@@ -37,9 +38,9 @@ pub record IsModel (model : Model) : Type 0 where
   pub inits : (i : ℕ) (m : List (Option Agent)) → slice_get model.inits i ≡ Some m → IsMixtureOver model.sig m
   pub rules : (k : ℕ) (r : RuleParts) → slice_get model.rules k ≡ Some r → IsRuleOver model.sig r
 
--- at most 1,000 complexes of at most 200 cells, and 2,000 rules with few agents
+-- complexes, their cells and rules are within their limits
 pub record IsWithinLimits (model : Model) : Type 0 where
-  pub few_inits : length model.inits ≤ 1000
-  pub few_cells : (i : ℕ) (m : List (Option Agent)) → slice_get model.inits i ≡ Some m → length m ≤ 200
-  pub few_rules : length model.rules ≤ 2000
+  pub few_inits : length model.inits ≤ MAX_INITS
+  pub few_cells : (i : ℕ) (m : List (Option Agent)) → slice_get model.inits i ≡ Some m → length m ≤ MAX_INIT_AGENTS
+  pub few_rules : length model.rules ≤ MAX_RULES
   pub few_agents : (k : ℕ) (r : RuleParts) → slice_get model.rules k ≡ Some r → HasFewAgents r

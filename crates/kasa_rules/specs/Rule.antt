@@ -1,6 +1,7 @@
 -- Rules: a left pattern, what becomes of its nodes, and the agents that are created.
 use Rattle.std.specs.Prelude.{◌≡◌, ◌≢◌, ℕ, ◌<◌, ◌≤◌, Bool, true, List, length, map, Option, Some, None, is_some, slice_get, option_map, option_and_then}
 use Rattle.std.specs.Option.{option_map_or}
+use Rattle.kasa_num.specs.declared.limits.TheConstants.{MAX_SIDE_AGENTS}
 use Rattle.kasa_graph.specs.declared.pattern.Node.{Node}
 use Rattle.kasa_graph.specs.Signature.{TypeEntry}
 use Rattle.kasa_graph.specs.declared.pattern.LinkTest.TheVariants.{To}
@@ -106,7 +107,7 @@ pub record IsRuleOver (sig : List TypeEntry) (r : RuleParts) : Type 0 where
   pub over : IsDraftOver sig r
   pub open over use *
 
--- at most 12 left nodes, and at most 12 created agents
+-- the left nodes and the created agents are within their limit
 pub record HasFewAgents (r : RuleParts) : Type 0 where
-  pub few_left : length r.left ≤ 12
-  pub few_made : length r.made ≤ 12
+  pub few_left : length r.left ≤ MAX_SIDE_AGENTS
+  pub few_made : length r.made ≤ MAX_SIDE_AGENTS

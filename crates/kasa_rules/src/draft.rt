@@ -1,7 +1,7 @@
 // Drafts of rules: a rule is made of its left pattern by one change after another.
 ghost use Rattle.std.specs.Prelude.{◌≡◌, ◌≢◌, ◌↔◌, ℕ, ◌<◌, ◌≤◌, List, length, map, replicate, Some, None, IsTrue, IsSome, IfOk, IfSome, IfNone, OnErr, [], ◌∷◌, slice_get};
 ghost use Rattle.kasa_graph.specs.declared.pattern.Node.{Node};
-ghost use Rattle.kasa_graph.specs.Lists.{update};
+ghost use Rattle.kasa_lists.specs.Lists.{update};
 ghost use Rattle.kasa_graph.specs.Signature.{TypeEntry, state_counts};
 ghost use Rattle.kasa_graph.specs.Pattern.{blank_node, HasNodeSite, IsPatternOver};
 ghost use Rattle.kasa_rules.specs.Rule.{fate_at, touched, HasWholeBonds, IsDraftOver, IsRuleOver};
@@ -11,6 +11,7 @@ use crate::rule::{
     End, Fate, MadeAgent, MadeSites, NodeAction, Rule, SiteActions, Written, is_touched,
 };
 use kasa_graph::{LinkTest, Pattern, Signature};
+use kasa_num::limits::{MAX_SIDE_AGENTS, MAX_SITES};
 use kasa_num::{AgentType, Name, NoMemory, NodeNo, SiteNo, StateNo};
 use std::alloc::Global;
 use std::marker::Model;
@@ -40,9 +41,9 @@ impl Model for RuleDraft {
 // Every left node is kept, and nothing is written on it.
 fn kept_nodes(alloc: Global, sig: &Signature, left: &Pattern) -> Result<Vec<NodeAction>, NoMemory>
     requires over { IsPatternOver sig.now left.now }
-    requires few { length left.now ≤ 12 }
+    requires few { length left.now ≤ MAX_SIDE_AGENTS }
     ensures all { IfOk result (λ actions. actions.items ≡ map keep_node left.now) }
-    ensures few_sites { IfOk result (λ _. (n : ℕ) (x : Node) → slice_get left.now n ≡ Some x → length x.sites ≤ 32) }
+    ensures few_sites { IfOk result (λ _. (n : ℕ) (x : Node) → slice_get left.now n ≡ Some x → length x.sites ≤ MAX_SITES) }
 {
     let mut actions = Vec::new(alloc);
     for n in 0..left.nodes() {
@@ -145,7 +146,7 @@ impl RuleDraft {
         left: Pattern,
     ) -> Result<RuleDraft, NoMemory>
         requires valid { IsPatternOver sig.now left }
-        requires few { length left ≤ 12 }
+        requires few { length left ≤ MAX_SIDE_AGENTS }
         ensures draft { IfOk result (λ draft. draft ≡ new_draft name.now left) }
         ensures over { IfOk result (λ draft. IsDraftOver sig.now draft) }
     {
@@ -164,7 +165,7 @@ impl RuleDraft {
     /// ones, from 0.
     pub fn make(&mut self, sig: &Signature, agent: AgentType) -> Result<u16, NoMemory>
         requires known { agent < length sig.now }
-        requires room { length self.old.made < 12 }
+        requires room { length self.old.made < MAX_SIDE_AGENTS }
         ensures ok { IfOk result (λ k. (k ≡ length self.old.made) × (self.new ≡ with_made self.old (new_agent sig.now agent))) }
         ensures err { OnErr result (self.new ≡ self.old) }
         ensures over { IsDraftOver sig.now self.old → IsDraftOver sig.now self.new }
@@ -248,7 +249,7 @@ impl RuleDraft {
     fn sites(&self, node: NodeNo) -> usize
         requires { node < length self.now.left }
         ensures count { (s : ℕ) → ((s < result) ↔ HasNodeSite self.now.left node s) }
-        ensures few { result ≤ 32 }
+        ensures few { result ≤ MAX_SITES }
     {
         self.actions[node.0 as usize].sites.len()
     }

@@ -1,6 +1,6 @@
 // Rules: what they test, delete, write and create.
 ghost use Rattle.std.specs.Prelude.{◌≡◌, ◌<◌, ◌≤◌, length, Some, IsSome, IfOk, is_some, map, replicate, slice_get, option_map, option_and_then};
-ghost use Rattle.kasa_graph.specs.Lists.{update};
+ghost use Rattle.kasa_lists.specs.Lists.{update};
 ghost use Rattle.kasa_graph.specs.Signature.{state_counts};
 ghost use Rattle.kasa_graph.specs.Pattern.{HasNodeSite};
 ghost use Rattle.kasa_graph.specs.Mixture.{first_state};
@@ -8,6 +8,7 @@ ghost use Rattle.kasa_rules.specs.Draft.{no_action, new_site};
 ghost use Rattle.kasa_rules.specs.Rule.{fate_at, written_state, written_link, made_type, made_site, made_state, made_link, touches, touched};
 
 use kasa_graph::{Pattern, Signature};
+use kasa_num::limits::MAX_SIDE_AGENTS;
 use kasa_num::{AgentType, Name, NoMemory, NodeNo, SiteNo, StateNo};
 use std::alloc::Global;
 use std::marker;
@@ -317,7 +318,7 @@ impl Rule {
     /// The left pattern, of at most 12 nodes: where it is embedded, the rule fires. It takes no memory.
     pub fn left(&self) -> &Pattern
         ensures pattern { result.now ≡ self.now.left }
-        ensures few { length self.now.left ≤ 12 }
+        ensures few { length self.now.left ≤ MAX_SIDE_AGENTS }
     {
         &self.left
     }
@@ -355,7 +356,7 @@ impl Rule {
     /// How many agents are created, at most 12. It takes no memory.
     pub fn made(&self) -> usize
         ensures count { result ≡ length self.now.made }
-        ensures few { result ≤ 12 }
+        ensures few { result ≤ MAX_SIDE_AGENTS }
     {
         self.made.len()
     }

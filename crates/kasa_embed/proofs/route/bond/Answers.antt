@@ -3,7 +3,7 @@ use Rattle.std.proofs.lemmas.Option.{slice_get_read, slice_get_within}
 use Rattle.std.specs.Prelude.{Some}
 use Rattle.kasa_graph.specs.declared.pattern.LinkTest.TheVariants.{To}
 use Rattle.kasa_graph.specs.Pattern.{site_at, link_test}
-use Rattle.kasa_graph.proofs.ListLemmas.{same_or_not}
+use Rattle.kasa_lists.proofs.Numbers.{same_or_not}
 use Rattle.kasa_graph.proofs.FitLemmas.{link_test-at}
 use Rattle.kasa_graph.proofs.BondLemmas.{site_of_bond}
 use Rattle.kasa_embed.proofs.route.bond.Goals as goal

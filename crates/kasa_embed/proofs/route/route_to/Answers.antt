@@ -1,5 +1,5 @@
 use Rattle.std.proofs.Common.{◌<◌, length, inl, inr, arith}
-use Rattle.kasa_graph.proofs.ListLemmas.{same_or_not}
+use Rattle.kasa_lists.proofs.Numbers.{same_or_not}
 use Rattle.kasa_embed.proofs.RouteLemmas.{bound_within}
 use Rattle.kasa_embed.proofs.route.route_to.Goals as goal
 

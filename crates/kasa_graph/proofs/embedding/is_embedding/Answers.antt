@@ -2,7 +2,7 @@ use Rattle.std.proofs.Common.{◌≡◌, length, refl, ◌∙◌, sym, arith, ru
 use Rattle.std.proofs.Math.Nat.{le_trans}
 use Rattle.std.specs.Prelude.{slice_get}
 use Rattle.std.proofs.lemmas.Option.{slice_get_within, slice_get-get_or, same_Some}
-use Rattle.kasa_graph.proofs.ListLemmas.{same_or_not}
+use Rattle.kasa_lists.proofs.Numbers.{same_or_not}
 use Rattle.kasa_graph.proofs.FitLemmas.{IsEmbedding-of, FitsCell-from}
 use Rattle.kasa_graph.proofs.embedding.is_embedding.Goals as goal
 

@@ -1,6 +1,6 @@
 use Rattle.std.proofs.Common.{sym, ◌∙◌, refl}
 use Rattle.std.proofs.lemmas.Option.{slice_get_read}
-use Rattle.kasa_graph.proofs.ListLemmas.{slice_set-update}
+use Rattle.kasa_lists.proofs.Updates.{slice_set-update}
 use Rattle.kasa_graph.proofs.CellLemmas.{agent_in-at}
 use Rattle.kasa_graph.proofs.mixture.take_agent.Goals as goal
 

@@ -1,8 +1,9 @@
 use Rattle.std.proofs.Common.{◌≡◌, ◌++◌, ◌∷◌, [], map, ◌∙◌, sym, ap}
 use Rattle.std.proofs.lemmas.Result.{err_from_is_err_and}
-use Rattle.kasa_graph.specs.Lists.{Has}
+use Rattle.kasa_lists.specs.Lists.{Has}
 use Rattle.kasa_graph.specs.SignatureView.{name_bytes, site_entry}
-use Rattle.kasa_graph.proofs.SignatureLemmas.{length-map, states_of, map-push, map-set_value, map-same_value}
+use Rattle.kasa_lists.proofs.Maps.{length-map, map-push}
+use Rattle.kasa_graph.proofs.SignatureLemmas.{states_of, map-set_value, map-same_value}
 use Rattle.kasa_graph.proofs.NameLemmas.{insert_key-new}
 use Rattle.kasa_graph.proofs.signature.insert_state.Goals as goal
 

@@ -2,7 +2,7 @@ use Rattle.std.proofs.Common.{◌≡◌, length, map, List, arith, sym, ◌∙�
 use Rattle.std.specs.Global.{Global}
 use Rattle.kasa_graph.specs.SignatureView.{StateSet, site_entry}
 use Rattle.kasa_graph.specs.SameNames.{same_site}
-use Rattle.kasa_graph.proofs.SignatureLemmas.{length-map}
+use Rattle.kasa_lists.proofs.Maps.{length-map}
 use Rattle.kasa_graph.proofs.SameLemmas.{SameBelow-suc, pointwise-same, pointwise-differ}
 use Rattle.kasa_graph.proofs.signature.same_sites.Goals as goal
 

@@ -1,5 +1,5 @@
 use Rattle.std.proofs.Common.{◌≡◌, ◌<◌, ◌++◌, ◌∷◌, [], ◌∙◌, sym, ap, arith, length, take, nat_lt, if◌then◌else◌}
-use Rattle.kasa_graph.specs.Lists.{map_from}
+use Rattle.kasa_lists.specs.Lists.{map_from}
 use Rattle.kasa_graph.specs.PatternText.{comma_joined, node_text}
 use Rattle.kasa_graph.specs.PatternTextParts.{node_text_at}
 use Rattle.kasa_graph.proofs.TextLemmas.{nodes_written, all_written}

@@ -1,5 +1,5 @@
 use Rattle.std.proofs.Common.{◌≡◌, take}
-use Rattle.kasa_graph.specs.Lists.{map_from}
+use Rattle.kasa_lists.specs.Lists.{map_from}
 use Rattle.kasa_graph.specs.PatternText.{comma_joined, node_text, first_ends}
 use Rattle.kasa_graph.proofs.text.text_of.Given as goal
 

@@ -1,5 +1,5 @@
 use Rattle.kasa_rules.specs.Draft.{delete_node}
-use Rattle.kasa_graph.proofs.ListUpdates.{slice_set-read}
+use Rattle.kasa_lists.proofs.Updates.{slice_set-read}
 use Rattle.kasa_rules.proofs.draft.put_deleted.Goals as goal
 
 pub returns : goal.returns

@@ -1,7 +1,8 @@
-use Rattle.kasa_graph.specs.Lists.{update}
+use Rattle.kasa_lists.specs.Lists.{update}
 use Rattle.kasa_rules.specs.declared.rule.MadeSite.{MadeSite}
 use Rattle.kasa_rules.specs.declared.rule.MadeAgent.{MadeAgent}
-use Rattle.kasa_graph.proofs.ListUpdates.{slice_set-read, then_bound}
+use Rattle.kasa_lists.proofs.Elements.{then_bound}
+use Rattle.kasa_lists.proofs.Updates.{slice_set-read}
 use Rattle.kasa_rules.proofs.draft.put_made_link.Goals as goal
 
 pub returns : goal.returns

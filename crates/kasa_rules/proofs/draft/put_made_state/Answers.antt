@@ -1,8 +1,9 @@
 use Rattle.std.specs.Prelude.{Some}
-use Rattle.kasa_graph.specs.Lists.{update}
+use Rattle.kasa_lists.specs.Lists.{update}
 use Rattle.kasa_rules.specs.declared.rule.MadeSite.{MadeSite}
 use Rattle.kasa_rules.specs.declared.rule.MadeAgent.{MadeAgent}
-use Rattle.kasa_graph.proofs.ListUpdates.{slice_set-read, then_bound}
+use Rattle.kasa_lists.proofs.Elements.{then_bound}
+use Rattle.kasa_lists.proofs.Updates.{slice_set-read}
 use Rattle.kasa_rules.proofs.draft.put_made_state.Goals as goal
 
 pub returns : goal.returns

@@ -1,7 +1,8 @@
 use Rattle.std.proofs.Common.{◌≤◌, ◌<◌, length, map, ap, ◌∙◌, arith}
 use Rattle.kasa_graph.specs.Pattern.{blank_site}
 use Rattle.kasa_graph.specs.Signature.{sites_of}
-use Rattle.kasa_graph.proofs.SignatureLemmas.{counts_more, counts_all, map-push}
+use Rattle.kasa_lists.proofs.Maps.{map-push}
+use Rattle.kasa_graph.proofs.SignatureLemmas.{counts_more, counts_all}
 use Rattle.kasa_graph.proofs.pattern.NodeSites.blank.Goals as goal
 
 pub loop-site-preserved : goal.loop-site-preserved

@@ -2,10 +2,11 @@ use Rattle.std.proofs.Common.{◌≡◌, ◌++◌, ◌∷◌, [], map, ◌∙◌
 use Rattle.std.specs.Map.{keys_of}
 use Rattle.std.proofs.lemmas.Result.{err_from_is_err_and}
 use Rattle.indexmap.specs.IndexMap.{set_value_at}
-use Rattle.kasa_graph.specs.Lists.{Has}
+use Rattle.kasa_lists.specs.Lists.{Has}
 use Rattle.kasa_graph.specs.Signature.{TypeEntry, with_new_site}
 use Rattle.kasa_graph.specs.SignatureView.{name_bytes, site_entry, type_entry}
-use Rattle.kasa_graph.proofs.SignatureLemmas.{length-map, sites_in, few_sites, map-push, map-set_value, map-same_value}
+use Rattle.kasa_lists.proofs.Maps.{length-map, map-push}
+use Rattle.kasa_graph.proofs.SignatureLemmas.{sites_in, few_sites, map-set_value, map-same_value}
 use Rattle.kasa_graph.proofs.NameLemmas.{insert-new, site_names-keys}
 use Rattle.kasa_graph.proofs.NewNameLemmas.{IsSignature-new_site}
 use Rattle.kasa_graph.proofs.signature.Signature.add_site.Goals.{After-from_residual-in_err-insert, Joined-branch-3}

@@ -3,7 +3,8 @@ use Rattle.std.proofs.lemmas.Result.{err_from_is_err_and}
 use Rattle.indexmap.specs.IndexMap.{set_value_at}
 use Rattle.kasa_graph.specs.Signature.{TypeEntry, state_names, with_state_name, with_new_state, IsSignature}
 use Rattle.kasa_graph.specs.SignatureView.{site_entry, type_entry}
-use Rattle.kasa_graph.proofs.SignatureLemmas.{length-map, sites_in, type_of_site, site_within, map-set_value, map-same_value}
+use Rattle.kasa_lists.proofs.Maps.{length-map}
+use Rattle.kasa_graph.proofs.SignatureLemmas.{sites_in, type_of_site, site_within, map-set_value, map-same_value}
 use Rattle.kasa_graph.proofs.NewNameLemmas.{state_names-in, IsSignature-new_state}
 use Rattle.kasa_graph.proofs.signature.Signature.add_state.Goals.{After-from_residual-in_err-number, In_ok-number}
 use Rattle.kasa_graph.proofs.signature.Signature.add_state.Goals as goal

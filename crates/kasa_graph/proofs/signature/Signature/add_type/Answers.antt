@@ -1,9 +1,9 @@
 use Rattle.std.proofs.Common.{◌≡◌, ◌++◌, ◌∷◌, [], map, ◌∙◌, ap, length, ◌<◌}
 use Rattle.std.specs.Map.{keys_of}
-use Rattle.kasa_graph.specs.Lists.{Has}
+use Rattle.kasa_lists.specs.Lists.{Has}
 use Rattle.kasa_graph.specs.Signature.{type_names, with_new_type}
 use Rattle.kasa_graph.specs.SignatureView.{name_bytes, type_entry}
-use Rattle.kasa_graph.proofs.SignatureLemmas.{map-push}
+use Rattle.kasa_lists.proofs.Maps.{map-push}
 use Rattle.kasa_graph.proofs.NameLemmas.{insert-new, type_names-keys}
 use Rattle.kasa_graph.proofs.NewNameLemmas.{IsSignature-new_type}
 use Rattle.kasa_graph.proofs.signature.Signature.add_type.Goals.{Joined-branch-3}

@@ -1,5 +1,5 @@
 use Rattle.kasa_graph.specs.Signature.{state_counts}
-use Rattle.kasa_graph.proofs.SignatureLemmas.{length-map}
+use Rattle.kasa_lists.proofs.Maps.{length-map}
 use Rattle.kasa_graph.proofs.signature.Signature.sites.Goals as goal
 
 pub returns-in-None-clause-counts : goal.returns-in-None-clause-counts

@@ -1,7 +1,7 @@
 use Rattle.std.proofs.Common.{◌≤◌, length, map, arith}
 use Rattle.kasa_graph.specs.Signature.{TypeEntry, type_names}
 use Rattle.kasa_graph.specs.SignatureView.{type_entry}
-use Rattle.kasa_graph.proofs.SignatureLemmas.{length-map}
+use Rattle.kasa_lists.proofs.Maps.{length-map}
 use Rattle.kasa_graph.proofs.signature.Signature.types.Goals as goal
 
 pub returns-clause-few : goal.returns-clause-few

@@ -1,5 +1,5 @@
 use Rattle.std.proofs.Common.{◌≡◌, ℕ, length, subst, inl, inr, arith}
-use Rattle.kasa_graph.proofs.ListLemmas.{same_or_not}
+use Rattle.kasa_lists.proofs.Numbers.{same_or_not}
 use Rattle.kasa_rules.specs.Draft.{IsHalfBond}
 use Rattle.kasa_rules.proofs.DraftLemmas.{HasWholeBonds-none, half_within}
 use Rattle.kasa_rules.proofs.draft.RuleDraft.half_bond.Goals as goal

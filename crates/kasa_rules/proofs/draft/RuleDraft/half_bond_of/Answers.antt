@@ -1,5 +1,5 @@
 use Rattle.std.proofs.Common.{ℕ, subst, inl, inr, arith}
-use Rattle.kasa_graph.proofs.ListLemmas.{same_or_not}
+use Rattle.kasa_lists.proofs.Numbers.{same_or_not}
 use Rattle.kasa_rules.specs.Draft.{IsHalfBond}
 use Rattle.kasa_rules.proofs.DraftLemmas.{half_site}
 use Rattle.kasa_rules.proofs.draft.RuleDraft.half_bond_of.Goals as goal

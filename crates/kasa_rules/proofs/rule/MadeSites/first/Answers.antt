@@ -1,6 +1,7 @@
 use Rattle.std.proofs.Common.{◌≤◌, ◌<◌, length, map, ap, ◌∙◌, arith}
 use Rattle.kasa_graph.specs.Signature.{sites_of}
-use Rattle.kasa_graph.proofs.SignatureLemmas.{counts_more, counts_all, map-push}
+use Rattle.kasa_lists.proofs.Maps.{map-push}
+use Rattle.kasa_graph.proofs.SignatureLemmas.{counts_more, counts_all}
 use Rattle.kasa_rules.specs.Draft.{new_site}
 use Rattle.kasa_rules.proofs.rule.MadeSites.first.Goals as goal
 

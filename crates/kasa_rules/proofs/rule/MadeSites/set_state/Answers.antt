@@ -1,6 +1,6 @@
 use Rattle.std.specs.Prelude.{Some}
 use Rattle.kasa_rules.specs.declared.rule.MadeSite.{MadeSite}
-use Rattle.kasa_graph.proofs.ListUpdates.{slice_set-at}
+use Rattle.kasa_lists.proofs.Updates.{slice_set-at}
 use Rattle.kasa_rules.proofs.rule.MadeSites.set_state.Goals as goal
 
 pub returns : goal.returns

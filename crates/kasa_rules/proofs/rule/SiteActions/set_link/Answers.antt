@@ -1,6 +1,6 @@
 use Rattle.std.specs.Prelude.{Some}
 use Rattle.kasa_rules.specs.declared.rule.SiteAction.{SiteAction}
-use Rattle.kasa_graph.proofs.ListUpdates.{slice_set-at}
+use Rattle.kasa_lists.proofs.Updates.{slice_set-at}
 use Rattle.kasa_rules.proofs.rule.SiteActions.set_link.Goals as goal
 
 pub returns : goal.returns

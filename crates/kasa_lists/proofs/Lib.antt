@@ -1,0 +1,9 @@
+pub mod Numbers
+pub mod Options
+pub mod Elements
+pub mod Updates
+pub mod Maps
+pub mod Having
+pub mod Different
+pub mod Every
+pub mod Grid
