@@ -14,7 +14,6 @@ use Rattle.kasa_syntax.specs.declared.decls.Item.{Item}
 use Rattle.kasa_syntax.specs.declared.decls.Item.TheVariants.{Absent}
 use Rattle.kasa_syntax.specs.declared.decls.Decl.{Decl}
 use Rattle.kasa_lexer.specs.Tokens.{IsOutcome as IsLexed}
-use Rattle.kasa_parser.specs.declared.wanted.Wanted.TheVariants.{Other}
 use Rattle.kasa_parser.specs.declared.run.Keyword.{Keyword}
 use Rattle.kasa_parser.specs.declared.run.Keyword.TheVariants as keyword
 use Rattle.kasa_parser.specs.Words.{Word, Kinds, only, words_of, same_kind, are_digits}
@@ -86,7 +85,7 @@ by_given P none some (Some x) has = some x has
 
 -- a rule by its trees alone, since how it is read is nothing here
 abbrev of : {A : Type 0} → (List Word → A → Type 0) → Rule A
-of I = record { Is = I; read = λ ws. stuck Other ws }
+of I = record { Is = I; read = λ ws. stuck ws }
 
 abbrev no_kinds : Kinds
 no_kinds = only []

@@ -1,193 +1,186 @@
 -- Where a declaration is stuck is its fault, with its cause.
-use Rattle.std.proofs.Common.{◌≡◌, ◌≢◌, ◌≤◌, ◌<◌, ◌⊎◌, inl, inr, ℕ, List, [], ◌∷◌, ◌++◌, Bool, true, false, ◌&&◌, ◌||◌, ◌==◌, nat_le, if◌then◌else◌, Option, Some, None, refl, sym, ap, ◌∙◌, codes, arith}
+use Rattle.std.proofs.Common.{◌≡◌, ◌≤◌, ◌<◌, ◌⊎◌, inl, inr, ℕ, ◌-◌, List, [], ◌∷◌, ◌++◌, length, take, length-append, Bool, true, false, not, ◌&&◌, ◌||◌, nat_le, Option, Some, refl, sym, ap, ◌∙◌, append_assoc, append-nil, codes, arith}
 use Rattle.std.proofs.lemmas.Bool.Decides.{nat_tests}
+use Rattle.std.proofs.lemmas.List.{take-map, length-map}
 use Rattle.std.specs.Str.Parse.{digits_value}
+use Rattle.kasa_num.specs.declared.Place.{Place}
 use Rattle.kasa_syntax.specs.Place.{place_at}
-use Rattle.kasa_syntax.specs.declared.tokens.Span.{Span}
 use Rattle.kasa_syntax.specs.declared.tokens.Token.{Token}
 use Rattle.kasa_syntax.specs.declared.tokens.TokenKind.{TokenKind}
-use Rattle.kasa_syntax.specs.declared.tokens.TokenKind.TheVariants.{Number, Underscore, Percent, Dollar, Symbol}
-use Rattle.kasa_syntax.specs.declared.agents.LinkWord.TheVariants.{Free, Hash, Label as a_label}
+use Rattle.kasa_syntax.specs.declared.tokens.TokenKind.TheVariants.{Number, Percent, Symbol}
 use Rattle.kasa_syntax.specs.declared.decls.Decl.{Decl}
-use Rattle.kasa_parser.specs.declared.wanted.Wanted.{Wanted}
-use Rattle.kasa_parser.specs.declared.wanted.Wanted.TheVariants as wants
-use Rattle.kasa_parser.specs.Words.{Word, words_of, same_kind, is_of, only, but, starts, is_digits, are_digits}
+use Rattle.kasa_parser.specs.declared.ParseFault.{ParseFault}
+use Rattle.kasa_parser.specs.Words.{Word, word_of, words_of, same_kind, is_of, only, but, starts, begins_with, is_digits, is_digits_at, are_digits}
 use Rattle.kasa_parser.specs.Rules.{Outcome, got, stuck}
-use Rattle.kasa_parser.specs.Grammar.{is_label, link_at, link_of}
+use Rattle.kasa_parser.specs.Grammar.{is_label}
 use Rattle.kasa_parser.specs.Decls.{Said, is_keyword, is_intervention, declaration, read_declaration, IsDeclaration, span_of, said_of}
-use Rattle.kasa_parser.specs.DeclFaults.{CanGoOn, IsCut, IsRuleStart, IsItemPlace, IsTokens, IsIntervention, IsLongLabel, IsCause, IsFault}
-use Rattle.kasa_parser.specs.Steps.{AreWithin, IsFirstWithin, begins_with, fault_at, fault_of}
+use Rattle.kasa_parser.specs.DeclFaults.{CanGoOn, IsCut, an_agent, a_label, IsItemPlace, IsTokens, IsIntervention, IsLongLabel, IsCause, IsFault}
+use Rattle.kasa_parser.specs.Steps.{AreWithin, IsLeft, first, can_go_on, before, is_item_place, is_long, fault_at, fault_of}
 use Rattle.kasa_parser.proofs.KindSets.{false_true, same_kind-same, both}
-use Rattle.kasa_parser.proofs.RuleLaws.{IsRefused, digits-kind}
-use Rattle.kasa_parser.proofs.GrammarLaws.{wanted, none, an_agent, an_agent-is, a_digit, none_some}
 use Rattle.kasa_parser.proofs.DeclLaws.{declaration-law}
-use Rattle.kasa_parser.proofs.Whole.{IsStuckWhole, WholeReads, whole-reads, goes_on, ends, refused}
-use Rattle.kasa_parser.proofs.NoItem.{no_item}
+use Rattle.kasa_parser.proofs.Whole.{IsStuckWhole, WholeReads, whole-reads, ends, refused}
 
--- ---- words
+whole : (ws : List Word) → WholeReads declaration ws (read_declaration ws)
+whole ws = whole-reads declaration true (but []) (but []) declaration-law ws
 
-bar-is : (k : TokenKind) (b : Bool) → is_of (Symbol 124 ∷ []) k ≡ b → b ≡ true → k ≡ Symbol 124
-bar-is k b e t = by (same_kind (Symbol 124) k) refl (e ∙ t)
+-- ---- words behind which a declaration goes on
+
+begun : (ws left : List Word) (i : IsStuckWhole declaration ws left) → CanGoOn i.used
+begun ws left i = (i.can.0, i.can.1 (span_of (i.used ++ i.can.0)), (i.can.1, i.can.2, refl))
+
+cut_there : (ws left : List Word) (i : IsStuckWhole declaration ws left) → IsCut i.used left
+cut_there ws [] i = λ d is. ends declaration true (but []) (but []) declaration-law ws i is.0 is.1
+cut_there ws (w ∷ others) i = λ goes. refused declaration true (but []) (but []) declaration-law ws others w i goes.0 goes.2.0 goes.2.1
+
+-- what can go on can go on with fewer words
+fewer : (u v : List Word) → CanGoOn (u ++ v) → CanGoOn u
+fewer u v (more, d, is) = (v ++ more, d, rw (← append_assoc u v more) is)
+
+-- reading tells whether words can go on
+goes-on : (ws : List Word) → ((can_go_on ws ≡ true) × CanGoOn ws) ⊎ ((can_go_on ws ≡ false) × (¬ CanGoOn ws))
+goes-on ws = by (read_declaration ws) refl (whole ws)
   where
-    by : (c : Bool) → same_kind (Symbol 124) k ≡ c → is_of (Symbol 124 ∷ []) k ≡ true → k ≡ Symbol 124
+    by : (o : Outcome Said) → read_declaration ws ≡ o → WholeReads declaration ws o → ((can_go_on ws ≡ true) × CanGoOn ws) ⊎ ((can_go_on ws ≡ false) × (¬ CanGoOn ws))
+    by (got said left) e i = inl (rw e refl, ([], said (span_of ws), (said, rw (append-nil ws) i.1, rw (append-nil ws) refl)))
+    by (stuck []) e i = inl (rw e refl, rw (i.cut, append-nil i.used) (begun ws [] i))
+    by (stuck (w ∷ left)) e i = inr (rw e refl, λ goes. cut_there ws (w ∷ left) i (fewer (i.used ++ w ∷ []) left (rw (append_assoc i.used (w ∷ []) left, ← i.cut) goes)))
+
+can-go : (ws : List Word) → can_go_on ws ≡ true → CanGoOn ws
+can-go ws e = by (goes-on ws)
+  where
+    by : ((can_go_on ws ≡ true) × CanGoOn ws) ⊎ ((can_go_on ws ≡ false) × (¬ CanGoOn ws)) → CanGoOn ws
+    by (inl i) = i.1
+    by (inr i) = false_true (sym i.0 ∙ e)
+
+goes : (ws : List Word) → CanGoOn ws → can_go_on ws ≡ true
+goes ws g = by (goes-on ws)
+  where
+    by : ((can_go_on ws ≡ true) × CanGoOn ws) ⊎ ((can_go_on ws ≡ false) × (¬ CanGoOn ws)) → can_go_on ws ≡ true
+    by (inl i) = i.0
+    by (inr i) = absurd (i.1 g)
+
+-- ---- the tests of causes
+
+pub digits-kind : (k : TokenKind) (bytes : List ℕ) → is_digits_at k bytes ≡ true → k ≡ Number
+digits-kind Number bytes e = refl
+digits-kind k bytes e = false_true e
+
+bar-is : (k : TokenKind) → is_of (Symbol 124 ∷ []) k ≡ true → k ≡ Symbol 124
+bar-is k e = by (same_kind (Symbol 124) k) refl e
+  where
+    by : (c : Bool) → same_kind (Symbol 124) k ≡ c → (c || false) ≡ true → k ≡ Symbol 124
     by true i e = sym (same_kind-same (Symbol 124) k i)
-    by false i e = false_true (rw i at e)
+    by false i e = false_true e
 
-label-digits : (k : TokenKind) (w : Word) (number : ℕ) (span : Span) → w.kind ≡ k → link_at k w ≡ Some (a_label number span) → is_digits w ≡ true
-label-digits Number w number span k e = rw k (by (is_label w.bytes) refl e)
-  where
-    by : (t : Bool) → is_label w.bytes ≡ t → (if t then Some (a_label (digits_value 10 w.bytes) w.span) else None) ≡ Some (a_label number span) → are_digits w.bytes ≡ true
-    by true i e = (both (are_digits w.bytes) (nat_le (digits_value 10 w.bytes) 65535) i).0
-    by false i e = none_some e
-label-digits Underscore w number span k e = absurd (let different : ⊥ = cc in different)
-label-digits (Symbol b) w number span k e = by (b == 46) (b == 35) e
-  where
-    by : (t u : Bool) → (if t then Some Free else (if u then Some Hash else None)) ≡ Some (a_label number span) → is_digits w ≡ true
-    by true u e = absurd (let different : ⊥ = cc in different)
-    by false true e = absurd (let different : ⊥ = cc in different)
-    by false false e = none_some e
-label-digits other w number span k e = none_some e
+no-not : (a : Bool) → not a ≡ true → a ≡ false
+no-not true e = false_true e
+no-not false e = refl
 
-short-label : (w : Word) → is_digits w ≡ true → digits_value 10 w.bytes ≤ 65535 → link_of w ≡ Some (a_label (digits_value 10 w.bytes) w.span)
-short-label w d l =
-    let k = digits-kind w.kind w.bytes d in
-    let digits : are_digits w.bytes ≡ true = rw k at d in
-    let small : nat_le (digits_value 10 w.bytes) 65535 ≡ true = grind (arith, nat_tests) in
-    rw (k, digits, small) refl
+both-are : (a b : Bool) → a ≡ true → b ≡ true → (a && b) ≡ true
+both-are a b i j = rw (i, j) refl
+
+item_place : (used : List Word) → is_item_place used ≡ true → IsItemPlace used
+item_place used e =
+    let parts = both (not (starts (only (Percent ∷ [])) used)) (can_go_on (used ++ an_agent)) e in
+    (no-not (starts (only (Percent ∷ [])) used) parts.0, can-go (used ++ an_agent) parts.1)
+
+is_place : (used : List Word) → IsItemPlace used → is_item_place used ≡ true
+is_place used (plain, can) = both-are (not (starts (only (Percent ∷ [])) used)) (can_go_on (used ++ an_agent)) (rw plain refl) (goes (used ++ an_agent) can)
+
+-- digits that are no label are too long
+digits-are : (k : TokenKind) (bytes : List ℕ) → is_digits_at k bytes ≡ true → are_digits bytes ≡ true
+digits-are Number bytes e = e
+digits-are k bytes e = false_true e
+
+long : (w : Word) → is_long w ≡ true → (is_digits w ≡ true) × (65535 < digits_value 10 w.bytes)
+long w e =
+    let parts = both (is_digits w) (not (is_label w.bytes)) e in
+    let digits = digits-are w.kind w.bytes parts.0 in
+    let other : not (true && nat_le (digits_value 10 w.bytes) 65535) ≡ true = rw digits at parts.1 in
+    (parts.0, grind (arith, nat_tests))
+
+is_too_long : (w : Word) → is_digits w ≡ true → 65535 < digits_value 10 w.bytes → is_long w ≡ true
+is_too_long w d large =
+    let digits = digits-are w.kind w.bytes d in
+    let above : nat_le (digits_value 10 w.bytes) 65535 ≡ false = grind (arith, nat_tests) in
+    rw (d, digits, above) refl
 
 -- ---- causes
 
-true_or_false : (b : Bool) → (b ≡ true) ⊎ (b ≡ false)
-true_or_false true = inl refl
-true_or_false false = inr refl
+module _ (used others : List Word) (w : Word) (text : List ℕ) (ending : ℕ) where
+  no_tokens : is_keyword (codes "%token") w ≡ false → (is_of (Symbol 124 ∷ []) w.kind && is_item_place used) ≡ false → ¬ IsTokens used w
+  no_tokens t b (inl token) = false_true (sym t ∙ token)
+  no_tokens t b (inr (bar, place)) = false_true (sym b ∙ rw (bar, is_place used place) refl)
 
-module _ (ws : List Word) (want : Wanted) (w : Word) (others : List Word) (i : IsStuckWhole wanted declaration ws want (w ∷ others)) where
-  can_go_on : (probe : List Word) → wanted.may want probe → CanGoOn (i.used ++ probe)
-  can_go_on probe may =
-      let (more, said, is) = goes_on wanted none declaration true (but []) (but []) declaration-law ws (w ∷ others) want i probe may in
-      (more, said (span_of ((i.used ++ probe) ++ more)), (said, is, refl))
+  no_mod : (begins_with (is_keyword (codes "%mod")) used && is_intervention w) ≡ false → ¬ IsIntervention used w
+  no_mod m (first, word) = false_true (sym m ∙ rw (first, word) refl)
 
-  -- no declaration has a word there that is refused as this one is
-  cannot : (v : Word) → ((more : List Word) → IsRefused want (w ∷ others) (v ∷ more)) → ¬ CanGoOn (i.used ++ v ∷ [])
-  cannot v a (more, d, (said, is, same)) = refused wanted none declaration true (but []) (but []) declaration-law ws (w ∷ others) want i v more said (a more) is
+  no_label : (is_long w && can_go_on (used ++ a_label ∷ [])) ≡ false → ¬ IsLongLabel used w
+  no_label l (digits, large, can) = false_true (sym l ∙ both-are (is_long w) (can_go_on (used ++ a_label ∷ [])) (is_too_long w digits large) (goes (used ++ a_label ∷ []) can))
 
-  -- digits that are stuck where a label is wanted are too long
-  long : want ≡ wants.Label → is_digits w ≡ true → 65535 < digits_value 10 w.bytes
-  long e d = by (nat_le (digits_value 10 w.bytes) 65535) refl
-    where
-      by : (t : Bool) → nat_le (digits_value 10 w.bytes) 65535 ≡ t → 65535 < digits_value 10 w.bytes
-      by false s = grind (arith, nat_tests)
-      by true s =
-          let small : digits_value 10 w.bytes ≤ 65535 = grind (arith, nat_tests) in
-          let may : wanted.may want (w ∷ []) = rw e (w, digits_value 10 w.bytes, w.span, short-label w d small, refl) in
-          absurd (cannot w (λ more. inl refl) (can_go_on (w ∷ []) may))
+  cause : (t m b l : Bool) → is_keyword (codes "%token") w ≡ t → (begins_with (is_keyword (codes "%mod")) used && is_intervention w) ≡ m → (is_of (Symbol 124 ∷ []) w.kind && is_item_place used) ≡ b →
+      (is_long w && can_go_on (used ++ a_label ∷ [])) ≡ l → IsCause text ending used (w ∷ others) (fault_at used w (place_at text w.span.start))
+  cause true m b l i j k n = rw i (refl, inl i)
+  cause false true b l i j k n = rw (i, j) (refl, both (begins_with (is_keyword (codes "%mod")) used) (is_intervention w) j)
+  cause false false true l i j k n =
+      let parts = both (is_of (Symbol 124 ∷ []) w.kind) (is_item_place used) k in
+      rw (i, j, k) (refl, inr (bar-is w.kind parts.0, item_place used parts.1))
+  cause false false false true i j k n =
+      let parts = both (is_long w) (can_go_on (used ++ a_label ∷ [])) n in
+      let digits = long w parts.0 in
+      rw (i, j, k, n) (refl, (digits.0, digits.1, can-go (used ++ a_label ∷ []) parts.1))
+  cause false false false false i j k n = rw (i, j, k, n) (refl, no_tokens i k, no_mod j, no_label n)
 
-  no_label : want ≢ wants.Label → ¬ IsLongLabel i.used w
-  no_label other (d, large, (label, number, span, e, goes)) = cannot label (λ more. inr (d, label-digits label.kind label number span refl e, other)) goes
+  the_cause : IsCause text ending used (w ∷ others) (fault_at used w (place_at text w.span.start))
+  the_cause = cause _ _ _ _ refl refl refl refl
 
-  no_token : want ≢ wants.Item → is_keyword (codes "%token") w ≡ false → ¬ IsTokens i.used w
-  no_token other t (inl k) = false_true (sym t ∙ k)
-  no_token other t (inr (bar, place)) = other (no_item i.used want w others bar place (cannot w (λ more. inl refl)) (i.same (w ∷ others) (inl refl)))
+-- ---- the fault
 
-  no_bar : is_of (Symbol 124 ∷ []) w.kind ≡ false → is_keyword (codes "%token") w ≡ false → ¬ IsTokens i.used w
-  no_bar b t (inl k) = false_true (sym t ∙ k)
-  no_bar b t (inr (bar, place)) = false_true (sym (rw bar at b))
+take-before : (u v : List Word) → take (length (u ++ v) - length v) (u ++ v) ≡ u
+take-before u v =
+    let n : length (u ++ v) - length v ≡ length u = omega (arith, length-append u v) in
+    rw n (taken u)
+  where
+    taken : (u : List Word) → take (length u) (u ++ v) ≡ u
+    taken [] = refl
+    taken (x ∷ u) = rw (taken u) refl
 
-  -- the words begin with `%` or not, and so do those before the place
-  percent : (used : List Word) → ws ≡ used ++ w ∷ others → w.kind ≡ Symbol 124 → starts (only (Percent ∷ [])) ws ≡ true → ¬ IsRuleStart used
-  percent [] e bar s start = false_true (rw (e, bar) at s)
-  percent (v ∷ used) e bar s start = start (sym (same_kind-same Percent v.kind (by (same_kind Percent v.kind) (rw e at s))))
-    where
-      by : (t : Bool) → (t || false) ≡ true → t ≡ true
-      by true e = refl
-      by false e = false_true e
+causes : (text : List ℕ) (ending : ℕ) (ws left : List Word) (i : IsStuckWhole declaration ws left) → IsCause text ending i.used left (fault_of text ending ws left)
+causes text ending ws [] i = refl
+causes text ending ws (w ∷ others) i =
+    let used : before ws (w ∷ others) ≡ i.used = rw i.cut (take-before i.used (w ∷ others)) in
+    rw used (the_cause i.used others w text ending)
 
-  plain : (used : List Word) → ws ≡ used ++ w ∷ others → starts (only (Percent ∷ [])) ws ≡ false → IsRuleStart used
-  plain [] e s = tt
-  plain (v ∷ used) e s = λ k. false_true (sym (rw (e, k) at s))
-
-  in_mod : (used : List Word) → ws ≡ used ++ w ∷ others → begins_with (is_keyword (codes "%mod")) ws ≡ true → is_intervention w ≡ true → IsIntervention used w
-  in_mod [] e m t = false_true (by (same_kind Dollar w.kind) refl t (rw e at m))
-    where
-      by : (b : Bool) → same_kind Dollar w.kind ≡ b → is_intervention w ≡ true → is_keyword (codes "%mod") w ≡ true → false ≡ true
-      by true k t m = rw (← same_kind-same Dollar w.kind k) at m
-      by false k t m = rw k at t
-  in_mod (v ∷ used) e m t = (rw e at m, t)
-
-  no_mod : (used : List Word) → ws ≡ used ++ w ∷ others → (begins_with (is_keyword (codes "%mod")) ws && is_intervention w) ≡ false → ¬ IsIntervention used w
-  no_mod [] e m h = h
-  no_mod (v ∷ used) e m (k, t) = false_true (sym (rw (e, k, t) at m))
-
-  item_place : want ≡ wants.Item → starts (only (Percent ∷ [])) ws ≡ false → IsItemPlace i.used
-  item_place e s = (plain i.used i.cut s, (an_agent, _, an_agent-is false, can_go_on an_agent (rw e refl)))
-
-  cause : (text : List ℕ) (ending : ℕ) (t m : Bool) → is_keyword (codes "%token") w ≡ t → (begins_with (is_keyword (codes "%mod")) ws && is_intervention w) ≡ m → (v : Wanted) → want ≡ v →
-      (bar percent_first digits : Bool) → is_of (Symbol 124 ∷ []) w.kind ≡ bar → starts (only (Percent ∷ [])) ws ≡ percent_first → is_digits w ≡ digits →
-      IsCause text ending i.used (w ∷ others) (fault_at ws v w (place_at text w.span.start))
-  cause text ending true m t h v e bar p d b s f = rw t (refl, inl t)
-  cause text ending false true t h v e bar p d b s f = let both_so = both (begins_with (is_keyword (codes "%mod")) ws) (is_intervention w) h in rw (t, h) (refl, in_mod i.used i.cut both_so.0 both_so.1)
-  cause text ending false false t h wants.Item e true true d b s f =
-      rw (t, h, b, s) (refl, in_percent, no_mod i.used i.cut h, no_label (λ g. let different : ⊥ = cc in different))
-    where
-      in_percent : ¬ IsTokens i.used w
-      in_percent (inl k) = false_true (sym t ∙ k)
-      in_percent (inr (bar, place)) = percent i.used i.cut bar s place.0
-  cause text ending false false t h wants.Item e true false d b s f = rw (t, h, b, s) (refl, inr (bar-is w.kind true b refl, item_place e s))
-  cause text ending false false t h wants.Item e false p d b s f = rw (t, h, b) (refl, no_bar b t, no_mod i.used i.cut h, no_label (λ g. let different : ⊥ = cc in different))
-  cause text ending false false t h wants.Label e bar p true b s f =
-      rw (t, h, f) (refl, (f, long e f, (a_digit, 1, a_digit.span, refl, can_go_on (a_digit ∷ []) (rw e (a_digit, 1, a_digit.span, refl, refl)))))
-  cause text ending false false t h wants.Label e bar p false b s f =
-      rw (t, h, f) (refl, no_token (λ g. let different : ⊥ = cc in different) t, no_mod i.used i.cut h, λ long. false_true (sym f ∙ long.0))
-  cause text ending false false t h wants.Other e bar p d b s f =
-      rw (t, h) (refl, no_token (λ g. let different : ⊥ = cc in different) t, no_mod i.used i.cut h, no_label (λ g. let different : ⊥ = cc in different))
-
-causes : (text : List ℕ) (ending : ℕ) (ws left : List Word) (want : Wanted) (i : IsStuckWhole wanted declaration ws want left) → IsCause text ending i.used left (fault_of text ending ws want left)
-causes text ending ws [] want i = refl
-causes text ending ws (w ∷ others) want i =
-    cause ws want w others i text ending (is_keyword (codes "%token") w) (begins_with (is_keyword (codes "%mod")) ws && is_intervention w) refl refl want refl
-    (is_of (Symbol 124 ∷ []) w.kind) (starts (only (Percent ∷ [])) ws) (is_digits w) refl refl refl
-
-cut_there : (ws left : List Word) (want : Wanted) (i : IsStuckWhole wanted declaration ws want left) → IsCut i.used left
-cut_there ws [] want i = λ d is. ends wanted none declaration true (but []) (but []) declaration-law ws want i is.0 is.1
-cut_there ws (w ∷ others) want i = cannot ws want w others i w (λ more. inl refl)
-
-stuck-fault : (text : List ℕ) (ending : ℕ) (ws left : List Word) (want : Wanted) → IsStuckWhole wanted declaration ws want left → IsFault text ws ending (fault_of text ending ws want left)
-stuck-fault text ending ws left want i =
-    let probe = wanted.some want in
-    let found = i.can probe.0 probe.1 in
-    record {
-      before = i.used;
-      others = left;
-      cut = i.cut;
-      goes_on = (probe.0 ++ found.0, found.1 (span_of (i.used ++ (probe.0 ++ found.0))), (found.1, found.2, refl));
-      stuck = cut_there ws left want i;
-      cause = causes text ending ws left want i;
-    }
+stuck-fault : (text : List ℕ) (ending : ℕ) (ws left : List Word) → IsStuckWhole declaration ws left → IsFault text ws ending (fault_of text ending ws left)
+stuck-fault text ending ws left i = record { before = i.used; others = left; cut = i.cut; goes_on = begun ws left i; stuck = cut_there ws left i; cause = causes text ending ws left i }
 
 -- ---- what reading gives
-
-whole : (ws : List Word) → WholeReads wanted declaration ws (read_declaration ws)
-whole ws = whole-reads wanted none declaration true (but []) (but []) declaration-law ws
 
 pub tree : (ws left : List Word) (d : Option Decl) → said_of (span_of ws) (read_declaration ws) ≡ got d left → IsDeclaration ws d
 tree ws left d e = by (read_declaration ws) (whole ws) e
   where
-    by : (o : Outcome Said) → WholeReads wanted declaration ws o → said_of (span_of ws) o ≡ got d left → IsDeclaration ws d
+    by : (o : Outcome Said) → WholeReads declaration ws o → said_of (span_of ws) o ≡ got d left → IsDeclaration ws d
     by (got said last) i e = (said, i.1, let same : said (span_of ws) ≡ d = cc in sym same)
-    by (stuck want last) i e = absurd (let different : ⊥ = cc in different)
+    by (stuck last) i e = absurd (let different : ⊥ = cc in different)
 
-is_stuck : (ws left : List Word) (want : Wanted) → said_of (span_of ws) (read_declaration ws) ≡ stuck want left → IsStuckWhole wanted declaration ws want left
-is_stuck ws left want e = by (read_declaration ws) (whole ws) e
+is_stuck : (ws left : List Word) → said_of (span_of ws) (read_declaration ws) ≡ stuck left → IsStuckWhole declaration ws left
+is_stuck ws left e = by (read_declaration ws) (whole ws) e
   where
-    by : (o : Outcome Said) → WholeReads wanted declaration ws o → said_of (span_of ws) o ≡ stuck want left → IsStuckWhole wanted declaration ws want left
+    by : (o : Outcome Said) → WholeReads declaration ws o → said_of (span_of ws) o ≡ stuck left → IsStuckWhole declaration ws left
     by (got said last) i e = absurd (let different : ⊥ = cc in different)
-    by (stuck v last) i e =
-        let same : v ≡ want = cc in
-        let there : last ≡ left = cc in
-        rw (← same, ← there) i
+    by (stuck last) i e = let there : last ≡ left = cc in rw (← there) i
 
-pub fault : (text : List ℕ) (ending : ℕ) (ws left : List Word) (want : Wanted) → said_of (span_of ws) (read_declaration ws) ≡ stuck want left → IsFault text ws ending (fault_of text ending ws want left)
-fault text ending ws left want e = stuck-fault text ending ws left want (is_stuck ws left want e)
+pub fault : (text : List ℕ) (ending : ℕ) (ws left : List Word) → said_of (span_of ws) (read_declaration ws) ≡ stuck left → IsFault text ws ending (fault_of text ending ws left)
+fault text ending ws left e = stuck-fault text ending ws left (is_stuck ws left e)
+
+-- what is left are the last words
+pub are_left : (ws left : List Word) → said_of (span_of ws) (read_declaration ws) ≡ stuck left → IsLeft ws left
+are_left ws left e = let i = is_stuck ws left e in (i.used, i.cut)
+
+-- the first word begins within a text of so many bytes
+abbrev IsFirstWithin : ℕ → List Word → Type 0
+IsFirstWithin size [] = Unit {0}
+IsFirstWithin size (w ∷ ws) = w.span.start ≤ size
 
 first-within : (text : List ℕ) (size : ℕ) (tokens : List Token) (used left : List Word) → AreWithin size tokens → words_of text tokens ≡ used ++ left → IsFirstWithin size left
 first-within text size tokens used [] h e = tt
@@ -206,8 +199,20 @@ first-within text size (t ∷ tokens) (u ∷ used) (w ∷ ws) h e = first-within
     rest [] = []
     rest (v ∷ vs) = vs
 
-pub left-within : (text : List ℕ) (size : ℕ) (tokens : List Token) (left : List Word) (want : Wanted) → AreWithin size tokens →
-    said_of (span_of (words_of text tokens)) (read_declaration (words_of text tokens)) ≡ stuck want left → IsFirstWithin size left
-left-within text size tokens left want h e =
-    let i = is_stuck (words_of text tokens) left want e in
-    first-within text size tokens i.used left h i.cut
+-- the first of the words that are left begins within the text
+pub start-within : (text : List ℕ) (size : ℕ) (tokens : List Token) (left : List Word) (w : Word) → AreWithin size tokens → IsLeft (words_of text tokens) left → first left ≡ Some w → w.span.start ≤ size
+start-within text size tokens left w h (used, cut) e = by left e (first-within text size tokens used left h cut)
+  where
+    by : (left : List Word) → first left ≡ Some w → IsFirstWithin size left → w.span.start ≤ size
+    by [] e within = absurd (let different : ⊥ = cc in different)
+    by (v ∷ vs) e within = let same : v ≡ w = cc in rw (← same) within
+
+-- what the code computes of the tokens is the fault of their words
+pub fault_is : (text : List ℕ) (ending : ℕ) (tokens : List Token) (left : List Word) (w : Word) (place : Place) (fault : ParseFault) → first left ≡ Some w → place ≡ place_at text w.span.start →
+    fault ≡ fault_at (words_of text (take (length tokens - length left) tokens)) w place → fault ≡ fault_of text ending (words_of text tokens) left
+fault_is text ending tokens [] w place is e p f = absurd (let different : ⊥ = cc in different)
+fault_is text ending tokens (v ∷ vs) w place is e p f =
+    let same : v ≡ w = cc in
+    let used : take (length (words_of text tokens) - length (v ∷ vs)) (words_of text tokens) ≡ words_of text (take (length tokens - length (v ∷ vs)) tokens) =
+    rw (length-map tokens (word_of text)) (take-map (word_of text) (length tokens - length (v ∷ vs)) tokens) in
+    rw (used, same, ← p) f

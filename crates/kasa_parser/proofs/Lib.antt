@@ -3,13 +3,10 @@ mod KindSets
 mod RuleLaws
 mod GrammarLaws
 mod Loops
-mod MoreItems
 mod DeclLaws
 mod Runs
 mod Whole
 mod Said
-mod Opens
-mod NoItem
 mod FaultLaws
 mod SplitLemmas
 mod TextLaws

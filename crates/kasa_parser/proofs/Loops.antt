@@ -1,32 +1,31 @@
 -- Reading a list in a loop.
 use Rattle.std.proofs.Common.{◌≡◌, ◌≤◌, ◌<◌, List, [], ◌∷◌, ◌++◌, length, Bool, true, false, if◌then◌else◌, refl, ◌∙◌, append_assoc, append-nil, arith}
 use Rattle.kasa_syntax.specs.declared.tokens.TokenKind.TheVariants.{Symbol}
-use Rattle.kasa_parser.specs.declared.wanted.Wanted.{Wanted}
 use Rattle.kasa_parser.specs.Words.{Word, Kinds, only, ◌or◌, same_kind, starts, rest}
 use Rattle.kasa_parser.specs.Rules.{Outcome, got, stuck, behind, Rule, many, behind_comma, listed}
 use Rattle.kasa_parser.proofs.KindSets.{disjoint, within}
-use Rattle.kasa_parser.proofs.RuleLaws.{Probe, IsReader, Reads, longer, any_most, one_begins, one_more, none_begins}
+use Rattle.kasa_parser.proofs.RuleLaws.{IsReader, Reads, longer, any_most, one_begins, one_more, none_begins}
 
 -- the list, where some elements have been read and these words are left
 abbrev pub with_more : {A : Type 0} → Kinds → Rule A → List A → List Word → Outcome (List A)
 with_more kinds r done ws = behind ((many (only (Symbol 44 ∷ []) or kinds) (behind_comma r)).read ws) (λ xs left. got (done ++ xs) left)
 
 -- an element that was read had a word
-pub shorter : {A : Type 0} (P : Probe) {r : Rule A} {b g : Kinds} (ws left : List Word) (x : A) → IsReader P r false b g → r.read ws ≡ got x left → length left < length ws
-shorter {A} P {r} {b} ws left x one e = by (r.read ws) (one.reads ws) e
+pub shorter : {A : Type 0} {r : Rule A} {b g : Kinds} (ws left : List Word) (x : A) → IsReader r false b g → r.read ws ≡ got x left → length left < length ws
+shorter {A} {r} {b} ws left x one e = by (r.read ws) (one.reads ws) e
   where
-    by : (o : Outcome A) → Reads P r ws o → o ≡ got x left → length left < length ws
+    by : (o : Outcome A) → Reads r ws o → o ≡ got x left → length left < length ws
     by (got y last) i e =
         let same : last ≡ left = cc in
         rw (i.cut, ← same) (longer b i.used last (one.begun i.used y i.is))
-    by (stuck want last) i e = absurd (let different : ⊥ = cc in different)
+    by (stuck last) i e = absurd (let different : ⊥ = cc in different)
 
 pub list-first : {A : Type 0} (kinds : Kinds) (r : Rule A) (ws left : List Word) (x : A) → starts kinds ws ≡ true → r.read ws ≡ got x left → (listed kinds r).read ws ≡ with_more kinds r (x ∷ []) left
 list-first {A} kinds r ws left x e o = rw (e, o) (by ((many (only (Symbol 44 ∷ []) or kinds) (behind_comma r)).read left))
   where
     by : (o : Outcome (List A)) → behind o (λ xs last. got (x ∷ xs) last) ≡ behind o (λ xs last. got ((x ∷ []) ++ xs) last)
     by (got xs last) = refl
-    by (stuck want last) = refl
+    by (stuck last) = refl
 
 pub list-end : {A : Type 0} (kinds : Kinds) (r : Rule A) (done : List A) (ws : List Word) → starts (only (Symbol 44 ∷ []) or kinds) ws ≡ false → with_more kinds r done ws ≡ got done ws
 list-end kinds r done ws e = rw (none_begins (behind_comma r).read (only (Symbol 44 ∷ []) or kinds) ws (length ws) e, append-nil done) refl
@@ -46,22 +45,22 @@ passed ws = if starts (only (Symbol 44 ∷ [])) ws then rest ws else ws
 list-next : {A : Type 0} (o : Outcome (List A)) (done : List A) (x : A) →
     behind (behind o (λ xs last. got (x ∷ xs) last)) (λ xs last. got (done ++ xs) last) ≡ behind o (λ xs last. got ((done ++ x ∷ []) ++ xs) last)
 list-next (got xs last) done x = rw (append_assoc done (x ∷ []) xs) refl
-list-next (stuck want last) done x = refl
+list-next (stuck last) done x = refl
 
-pub list-step : {A : Type 0} (P : Probe) (r : Rule A) (b g kinds : Kinds) (done : List A) (ws left : List Word) (x : A) →
-    within b (only (Symbol 44 ∷ []) or kinds) ≡ true → disjoint g (only (Symbol 44 ∷ []) or kinds) ≡ true → IsReader P (behind_comma r) false b g → starts (only (Symbol 44 ∷ []) or kinds) ws ≡ true →
+pub list-step : {A : Type 0} (r : Rule A) (b g kinds : Kinds) (done : List A) (ws left : List Word) (x : A) →
+    within b (only (Symbol 44 ∷ []) or kinds) ≡ true → disjoint g (only (Symbol 44 ∷ []) or kinds) ≡ true → IsReader (behind_comma r) false b g → starts (only (Symbol 44 ∷ []) or kinds) ws ≡ true →
     r.read (passed ws) ≡ got x left → with_more kinds r done ws ≡ with_more kinds r (done ++ x ∷ []) left
-list-step P r b g kinds done ws left x w d next e o =
+list-step r b g kinds done ws left x w d next e o =
     let read = comma-read r ws ∙ o in
-    let less = shorter P ws left x next read in
+    let less = shorter ws left x next read in
     let m = one_more (only (Symbol 44 ∷ []) or kinds) ws (length ws) e (omega arith) in
     let most : length left ≤ m.0 = omega (arith, m.1) in
-    rw (m.1, one_begins (behind_comma r).read (only (Symbol 44 ∷ []) or kinds) ws left x m.0 e read, any_most P (behind_comma r) b g (only (Symbol 44 ∷ []) or kinds) w d next left m.0 most)
+    rw (m.1, one_begins (behind_comma r).read (only (Symbol 44 ∷ []) or kinds) ws left x m.0 e read, any_most (behind_comma r) b g (only (Symbol 44 ∷ []) or kinds) w d next left m.0 most)
     (list-next ((many (only (Symbol 44 ∷ []) or kinds) (behind_comma r)).read left) done x)
 
-pub list-stuck : {A : Type 0} (r : Rule A) (kinds : Kinds) (done : List A) (ws left : List Word) (want : Wanted) → starts (only (Symbol 44 ∷ []) or kinds) ws ≡ true →
-    r.read (passed ws) ≡ stuck want left → with_more kinds r done ws ≡ stuck want left
-list-stuck r kinds done ws left want e o =
+pub list-stuck : {A : Type 0} (r : Rule A) (kinds : Kinds) (done : List A) (ws left : List Word) → starts (only (Symbol 44 ∷ []) or kinds) ws ≡ true →
+    r.read (passed ws) ≡ stuck left → with_more kinds r done ws ≡ stuck left
+list-stuck r kinds done ws left e o =
     let read = comma-read r ws ∙ o in
     let m = one_more (only (Symbol 44 ∷ []) or kinds) ws (length ws) e (omega arith) in
     rw (m.1, e, read) refl

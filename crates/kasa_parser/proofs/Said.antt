@@ -1,22 +1,17 @@
 -- What a declaration says, where its span is known.
-use Rattle.std.proofs.Common.{◌≡◌, ℕ, List, [], ◌∷◌, false, Some, refl}
+use Rattle.std.proofs.Common.{◌≡◌, List, [], ◌∷◌, false, Some, refl}
 use Rattle.kasa_syntax.specs.declared.tokens.Span.{Span}
 use Rattle.kasa_syntax.specs.declared.tokens.TokenKind.TheVariants.{Percent}
 use Rattle.kasa_syntax.specs.declared.decls.RuleText.{RuleText}
 use Rattle.kasa_syntax.specs.declared.decls.Decl.TheVariants.{Rule}
-use Rattle.kasa_parser.specs.declared.wanted.Wanted.{Wanted}
-use Rattle.kasa_num.specs.declared.Place.{Place}
-use Rattle.kasa_syntax.specs.Place.{place_at}
-use Rattle.kasa_parser.specs.declared.ParseFault.{ParseFault}
-use Rattle.kasa_parser.specs.Steps.{first, fault_at, fault_of}
-use Rattle.kasa_parser.specs.Words.{Word, starts, only, rest}
+use Rattle.kasa_parser.specs.Words.{Word, starts, only}
 use Rattle.kasa_parser.specs.Rules.{Outcome, got, stuck, behind}
 use Rattle.kasa_parser.specs.Decls.{Said, rule_text, declaration, read_declaration, all_read, said_of}
 
 rule-by : (start : Span) (o : Outcome (Span → RuleText)) →
     said_of start (behind o (λ text left. got (λ s. Some (Rule (text s))) left)) ≡ behind (behind o (λ text left. got (text start) left)) (λ r left. got (Some (Rule r)) left)
 rule-by start (got text left) = refl
-rule-by start (stuck want left) = refl
+rule-by start (stuck left) = refl
 
 -- where no `%` stands first a rule is read
 pub rule-said : (start : Span) (ws : List Word) → starts (only (Percent ∷ [])) ws ≡ false →
@@ -26,17 +21,8 @@ rule-said start ws e = rw e (rule-by start (rule_text.read ws))
 whole-by : (start : Span) (o : Outcome Said) → said_of start (behind o (λ said left. all_read said left)) ≡ behind (said_of start o) (λ d left. all_read d left)
 whole-by start (got said []) = refl
 whole-by start (got said (w ∷ ws)) = refl
-whole-by start (stuck want left) = refl
+whole-by start (stuck left) = refl
 
 -- what a declaration says, and nothing is left
 pub whole-said : (start : Span) (ws : List Word) → said_of start (read_declaration ws) ≡ behind (said_of start (declaration.read ws)) (λ d left. all_read d left)
 whole-said start ws = whole-by start (declaration.read ws)
-
-pub fault_is : (text : List ℕ) (words : List Word) (ending : ℕ) (want : Wanted) (left : List Word) (begin word : Word) (place : Place) (fault : ParseFault) → first words ≡ Some begin → first left ≡ Some word →
-    place ≡ place_at text word.span.start → fault ≡ fault_at (begin ∷ rest words) want word place → fault ≡ fault_of text ending words want left
-fault_is text [] ending want left begin word place fault b w p f = absurd (let different : ⊥ = cc in different)
-fault_is text (x ∷ xs) ending want [] begin word place fault b w p f = absurd (let different : ⊥ = cc in different)
-fault_is text (x ∷ xs) ending want (y ∷ ys) begin word place fault b w p f =
-    let same : x ≡ begin = cc in
-    let it : y ≡ word = cc in
-    rw (same, it, ← p) f

@@ -17,15 +17,13 @@ use Rattle.kasa_parser.specs.Parses.{Parses, IsOutcome, declaration_from, with_m
 use Rattle.kasa_parser.specs.Parses.Parses.{ended, read, fault_later, fault_here}
 use Rattle.kasa_parser.specs.Steps.{AreWithin, fault_of}
 use Rattle.kasa_parser.proofs.KindSets.{false_true, same_kind-same, both}
-use Rattle.kasa_parser.proofs.RuleLaws.{digits-kind}
-use Rattle.kasa_parser.proofs.GrammarLaws.{wanted, none}
 use Rattle.kasa_parser.proofs.DeclLaws.{declaration-law}
 use Rattle.kasa_parser.proofs.Whole.{whole-is}
-use Rattle.kasa_parser.proofs.FaultLaws.{tree, fault}
+use Rattle.kasa_parser.proofs.FaultLaws.{digits-kind, tree, fault}
 
 pub complete : (ws : List Word) (d : Option Decl) → IsDeclaration ws d → declaration_from ws ≡ got d []
 complete ws d (said, is, same) =
-    let read = whole-is wanted none declaration true (but []) (but []) declaration-law ws said is in
+    let read = whole-is declaration true (but []) (but []) declaration-law ws said is in
     rw (read, same) refl
 
 pub one_declaration : (ws : List Word) (d e : Option Decl) → IsDeclaration ws d → IsDeclaration ws e → d ≡ e
@@ -79,8 +77,7 @@ one_cut a b c d e a_stuck a_goes c_stuck c_goes = by (cuts a b c d e)
     by (inr (inr (w, more, longer, left))) = absurd (shorter c d a w more c_stuck a_goes longer b left)
 
 intervention-word : (before : List Word) (w : Word) → IsIntervention before w → w.kind ≡ Dollar
-intervention-word [] w is = absurd is
-intervention-word (f ∷ bs) w (first, word) = by (same_kind Dollar w.kind) refl
+intervention-word before w (first, word) = by (same_kind Dollar w.kind) refl
   where
     by : (t : Bool) → same_kind Dollar w.kind ≡ t → w.kind ≡ Dollar
     by true i = sym (same_kind-same Dollar w.kind i)
@@ -163,7 +160,7 @@ Parses-read text (d ∷ ds) = by (declaration_from d.words) refl (read_all text 
     by : (o : Outcome (Option Decl)) → declaration_from d.words ≡ o → (more : Result (List Decl) ParseFault) → Parses text ds more → Parses text (d ∷ ds) (with_read text d o more)
     by (got given rest) e (Ok decls) later = read given (tree d.words rest given e) later
     by (got given rest) e (Err bad) later = fault_later given (tree d.words rest given e) later
-    by (stuck want rest) e more later = fault_here (fault_of text d.ending d.words want rest) (fault text d.ending d.words rest want e)
+    by (stuck rest) e more later = fault_here (fault_of text d.ending d.words rest) (fault text d.ending d.words rest e)
 
 -- a declaration that is read
 read-on : (text : List ℕ) (d : Declaration) (ds : List Declaration) (given : Option Decl) (more : Result (List Decl) ParseFault) → IsDeclaration d.words given → more ≡ read_all text ds →
@@ -177,7 +174,7 @@ fault-read text d ds bad is = by (declaration_from d.words) refl
   where
     by : (o : Outcome (Option Decl)) → declaration_from d.words ≡ o → Err bad ≡ with_read text d o (read_all text ds)
     by (got given rest) e = absurd (no-fault text d given bad (tree d.words rest given e) is)
-    by (stuck want rest) e = ap {B = Result (List Decl) ParseFault} (λ f. Err f) (one_fault text d bad (fault_of text d.ending d.words want rest) is (fault text d.ending d.words rest want e))
+    by (stuck rest) e = ap {B = Result (List Decl) ParseFault} (λ f. Err f) (one_fault text d bad (fault_of text d.ending d.words rest) is (fault text d.ending d.words rest e))
 
 pub read-only : (text : List ℕ) {ds : List Declaration} {one : Result (List Decl) ParseFault} → Parses text ds one → one ≡ read_all text ds
 read-only text ended = refl

@@ -1,16 +1,12 @@
--- What the words of a declaration give: what it says of the model, or the first fault.
-use Rattle.std.specs.Prelude.{◌≡◌, ◌≢◌, ◌<◌, ℕ, ◌⊎◌, true, false, ⊤, List, [], ◌∷◌, ◌++◌, Option, Some, codes}
+-- The first fault of a declaration's words.
+use Rattle.std.specs.Prelude.{◌≡◌, ◌<◌, ℕ, ◌⊎◌, true, false, List, [], ◌∷◌, ◌++◌, Option, codes}
 use Rattle.std.specs.Str.Parse.{digits_value}
 use Rattle.kasa_syntax.specs.Place.{place_at}
-use Rattle.kasa_syntax.specs.declared.tokens.Span.{Span}
-use Rattle.kasa_syntax.specs.declared.tokens.TokenKind.TheVariants.{Percent, Symbol}
-use Rattle.kasa_syntax.specs.declared.agents.AgentText.{AgentText}
-use Rattle.kasa_syntax.specs.declared.agents.LinkWord.TheVariants.{Label}
+use Rattle.kasa_syntax.specs.declared.tokens.TokenKind.TheVariants.{Name, Number, Percent, Symbol}
 use Rattle.kasa_syntax.specs.declared.decls.Decl.{Decl}
 use Rattle.kasa_parser.specs.declared.ParseFault.{ParseFault}
 use Rattle.kasa_parser.specs.declared.ParseFault.TheVariants.{NoMemory, Unexpected, Tokens, Intervention, LongLabel}
-use Rattle.kasa_parser.specs.Words.{Word, is_digits}
-use Rattle.kasa_parser.specs.Grammar.{link_of, agent}
+use Rattle.kasa_parser.specs.Words.{Word, only, starts, begins_with, is_digits, a_word}
 use Rattle.kasa_parser.specs.Decls.{is_keyword, is_intervention, IsDeclaration}
 
 -- some declaration begins with these words
@@ -24,27 +20,29 @@ IsCut before (w ∷ others) = ¬ CanGoOn (before ++ w ∷ [])
 
 -- ---- causes
 
--- words of a rule, before a rate, behind which an item may stand; so do an arrow, `@` or the end
-abbrev pub IsRuleStart : List Word → Type 0
-IsRuleStart [] = ⊤
-IsRuleStart (w ∷ ws) = w.kind ≢ Percent
+-- the words of an agent without sites
+abbrev pub an_agent : List Word
+an_agent = a_word Name ∷ a_word (Symbol 40) ∷ a_word (Symbol 41) ∷ []
 
+-- a label, which is 0
+abbrev pub a_label : Word
+a_label = a_word Number
+
+-- words of a rule behind which an agent may stand
 abbrev pub IsItemPlace : List Word → Type 0
-IsItemPlace before = IsRuleStart before × ((one : List Word) × (a : AgentText) × (agent false).Is one a × CanGoOn (before ++ one))
+IsItemPlace before = (starts (only (Percent ∷ [])) before ≡ false) × CanGoOn (before ++ an_agent)
 
 -- the word for tokens anywhere, and a `|` where an item may stand
 abbrev pub IsTokens : List Word → Word → Type 0
 IsTokens before w = (is_keyword (codes "%token") w ≡ true) ⊎ ((w.kind ≡ Symbol 124) × IsItemPlace before)
 
+-- an intervention behind `%mod`
 abbrev pub IsIntervention : List Word → Word → Type 0
-IsIntervention [] w = ⊥
-IsIntervention (first ∷ before) w = (is_keyword (codes "%mod") first ≡ true) × (is_intervention w ≡ true)
+IsIntervention before w = (begins_with (is_keyword (codes "%mod")) before ≡ true) × (is_intervention w ≡ true)
 
--- a label that is too long, where a shorter one may stand
+-- a label that is too long, where a label may stand
 abbrev pub IsLongLabel : List Word → Word → Type 0
-IsLongLabel before w =
-    (is_digits w ≡ true) × (65535 < digits_value 10 w.bytes)
-    × ((label : Word) × (number : ℕ) × (span : Span) × (link_of label ≡ Some (Label number span)) × CanGoOn (before ++ label ∷ []))
+IsLongLabel before w = (is_digits w ≡ true) × (65535 < digits_value 10 w.bytes) × CanGoOn (before ++ a_label ∷ [])
 
 -- the cause and the place of a fault at what is left of a declaration, which ends at an offset
 abbrev pub IsCause : List ℕ → ℕ → List Word → List Word → ParseFault → Type 0

@@ -1,4 +1,4 @@
--- The grammar of declarations.
+-- The grammar of declarations. Symbols stand by their bytes, as in `Grammar`; 42 is `*`, 58 `:` and 64 `@`.
 use Rattle.std.specs.Prelude.{◌≡◌, ℕ, List, [], ◌∷◌, Bool, true, false, not, if◌then◌else◌, ◌&&◌, ◌||◌, ◌==◌, Option, Some, None, codes}
 use Rattle.std.specs.List.{list_any}
 use Rattle.kasa_syntax.specs.declared.tokens.Span.{Span}
@@ -19,13 +19,12 @@ use Rattle.kasa_syntax.specs.declared.decls.Form.{Form}
 use Rattle.kasa_syntax.specs.declared.decls.Form.TheVariants.{Edit, Arrow as arrow_form}
 use Rattle.kasa_syntax.specs.declared.decls.Decl.{Decl}
 use Rattle.kasa_syntax.specs.declared.decls.Decl.TheVariants as decl
-use Rattle.kasa_parser.specs.declared.wanted.Wanted.TheVariants.{Item as an_item, Other}
 use Rattle.kasa_parser.specs.declared.run.Keyword.{Keyword}
 use Rattle.kasa_parser.specs.declared.run.Keyword.TheVariants as keyword
 use Rattle.kasa_parser.specs.declared.run.Run.{Run}
 use Rattle.kasa_parser.specs.declared.run.Run.TheVariants.{Links, Mod, Rate}
 use Rattle.kasa_parser.specs.Words.{Word, Kinds, only, but, has, same_kind, are_digits, are_equal}
-use Rattle.kasa_parser.specs.Rules.{Rule, Outcome, got, stuck, behind, give, word, ◌▹◌, by_first, expect, many, up_to, listed, listed_some, symbol, maybe, in_any_order}
+use Rattle.kasa_parser.specs.Rules.{Rule, Outcome, got, stuck, behind, give, word, ◌▹◌, by_first, many, listed, listed_some, symbol, maybe, in_any_order}
 use Rattle.kasa_parser.specs.Grammar.{name, items, agent}
 
 -- ---- single words
@@ -43,7 +42,7 @@ passing test w = if test w then Some tt else None
 
 -- words of these kinds that pass a test
 abbrev pub run : Kinds → (Word → Bool) → Rule (List (Unit {0}))
-run kinds test = many kinds (word Other (passing (λ w. has kinds w.kind && test w)))
+run kinds test = many kinds (word (passing (λ w. has kinds w.kind && test w)))
 
 abbrev pub brackets : List TokenKind
 brackets = Symbol 40 ∷ Symbol 41 ∷ Symbol 91 ∷ Symbol 93 ∷ Symbol 123 ∷ Symbol 125 ∷ []
@@ -109,7 +108,7 @@ keyword_of w =
 -- ---- agent declarations
 
 abbrev pub state_names : Rule (List Span)
-state_names = listed (only (Name ∷ Number ∷ [])) (word Other state_name_of)
+state_names = listed (only (Name ∷ Number ∷ [])) (word state_name_of)
 
 abbrev pub states : Rule (List Span)
 states = symbol 123 ▹ λ opening. state_names ▹ λ some. symbol 125 ▹ λ closing. give some
@@ -146,7 +145,7 @@ last_or b (c ∷ cs) = last_or c cs
 
 abbrev pub count : Rule (List Bool)
 count =
-    many (only (Number ∷ Quoted ∷ Symbol 43 ∷ Symbol 45 ∷ Symbol 42 ∷ Symbol 47 ∷ Symbol 40 ∷ Symbol 41 ∷ [])) (word Other count_of)
+    many (only (Number ∷ Quoted ∷ Symbol 43 ∷ Symbol 45 ∷ Symbol 42 ∷ Symbol 47 ∷ Symbol 40 ∷ Symbol 41 ∷ [])) (word count_of)
 
 -- whether the last word of a count is `(`
 abbrev pub counted : Rule Bool
@@ -156,12 +155,9 @@ abbrev pub closed : Bool → Rule (Unit {0})
 closed true = symbol 41
 closed false = give tt
 
-abbrev pub an_agent : Rule AgentText
-an_agent = expect an_item (only (Name ∷ [])) (agent false)
-
 abbrev pub init_agents : Rule (List AgentText)
 init_agents =
-    symbol 58 ▹ λ colon. counted ▹ λ after_open. listed_some (only (Name ∷ [])) an_agent ▹ λ some. closed after_open ▹ λ closing. give some
+    symbol 58 ▹ λ colon. counted ▹ λ after_open. listed_some (only (Name ∷ [])) (agent false) ▹ λ some. closed after_open ▹ λ closing. give some
 
 -- ---- rules
 
@@ -192,7 +188,7 @@ is_edited (agent_item agent) = is_mark agent.mark || list_any is_edited_site age
 -- the right side behind an arrow
 abbrev pub arrow : List Item → Rule Form
 arrow left =
-    word Other arrow_of ▹ λ both. up_to an_item (Symbol 64 ∷ []) (items false) ▹ λ right. give (arrow_form left right both)
+    word arrow_of ▹ λ both. items false ▹ λ right. give (arrow_form left right both)
 
 -- Behind the items of a body: an arrow follows if they are none, none if one of them has a mark or a `/`, and else maybe one.
 abbrev pub body_behind : Bool → List Item → Rule Form
@@ -201,7 +197,7 @@ body_behind true (x ∷ xs) = give (Edit (x ∷ xs))
 body_behind false (x ∷ xs) = by_first (only (Arrow ∷ BothArrow ∷ [])) (arrow (x ∷ xs)) (give (Edit (x ∷ xs)))
 
 abbrev pub body : Rule Form
-body = up_to an_item (Arrow ∷ BothArrow ∷ Symbol 64 ∷ []) (items true) ▹ λ some. body_behind (list_any is_edited some) some
+body = items true ▹ λ some. body_behind (list_any is_edited some) some
 
 abbrev pub rate : Rule (Option (Unit {0}))
 rate = maybe (only (Symbol 64 ∷ [])) (symbol 64 ▹ λ at. run_of Rate)
@@ -209,7 +205,7 @@ rate = maybe (only (Symbol 64 ∷ [])) (symbol 64 ▹ λ at. run_of Rate)
 -- a rule's tree has the span of all its words
 abbrev pub rule_text : Rule (Span → RuleText)
 rule_text =
-    maybe (only (Quoted ∷ [])) (word Other quoted_of) ▹ λ n. body ▹ λ form. rate ▹ λ some.
+    maybe (only (Quoted ∷ [])) (word quoted_of) ▹ λ n. body ▹ λ form. rate ▹ λ some.
     give (λ start. record { start = start; name = n; form = form })
 
 -- ---- one declaration
@@ -226,7 +222,7 @@ behind_keyword keyword.Skipped = run_of Rate ▹ λ some. give (λ start. None)
 
 abbrev pub declaration : Rule Said
 declaration =
-    by_first (only (Percent ∷ [])) (word Other keyword_of ▹ λ k. behind_keyword k)
+    by_first (only (Percent ∷ [])) (word keyword_of ▹ λ k. behind_keyword k)
     (rule_text ▹ λ text. give (λ start. Some (decl.Rule (text start))))
 
 -- ---- all words of a declaration
@@ -247,7 +243,7 @@ IsDeclaration ws d = (said : Said) × declaration.Is ws said × (d ≡ said (spa
 -- nothing is left
 abbrev pub all_read : {A : Type 0} → A → List Word → Outcome A
 all_read x [] = got x []
-all_read x (w ∷ ws) = stuck Other (w ∷ ws)
+all_read x (w ∷ ws) = stuck (w ∷ ws)
 
 abbrev pub read_declaration : List Word → Outcome Said
 read_declaration ws = behind (declaration.read ws) (λ said left. all_read said left)

@@ -1,4 +1,5 @@
--- The grammar of agents and of a side's items.
+-- The grammar of agents and items. Symbols stand by their bytes: 35 is `#`, 40 `(`, 41 `)`, 43 `+`, 44 `,`, 45 `-`, 46 `.`,
+-- 47 `/`, 91 `[`, 93 `]`, 123 `{` and 125 `}`.
 use Rattle.std.specs.Prelude.{ℕ, List, [], ◌∷◌, Bool, true, false, if◌then◌else◌, ◌&&◌, ◌==◌, nat_le, Option, Some, None}
 use Rattle.std.specs.Str.Parse.{digits_value}
 use Rattle.kasa_syntax.specs.declared.tokens.Span.{Span}
@@ -16,9 +17,8 @@ use Rattle.kasa_syntax.specs.declared.agents.Mark.TheVariants.{Plain, Plus, Minu
 use Rattle.kasa_syntax.specs.declared.agents.AgentText.{AgentText}
 use Rattle.kasa_syntax.specs.declared.decls.Item.{Item}
 use Rattle.kasa_syntax.specs.declared.decls.Item.TheVariants.{Absent, Agent}
-use Rattle.kasa_parser.specs.declared.wanted.Wanted.TheVariants as want
 use Rattle.kasa_parser.specs.Words.{Word, only, same_kind, are_digits}
-use Rattle.kasa_parser.specs.Rules.{Rule, give, word, ◌▹◌, by_first, expect, listed, symbol, maybe, in_any_order}
+use Rattle.kasa_parser.specs.Rules.{Rule, give, word, ◌▹◌, by_first, listed, symbol, maybe, in_any_order}
 
 -- ---- single words
 
@@ -65,16 +65,16 @@ absent_of w = if same_kind (Symbol 46) w.kind then Some Absent else None
 -- ---- sites
 
 abbrev pub name : Rule Span
-name = word want.Other name_of
+name = word name_of
 
 abbrev pub state_word : Rule StateWord
-state_word = word want.Other state_of
+state_word = word state_of
 
 -- `.`, `#`, `_`, a label, or a site, `.` and a type
 abbrev pub link_word : Rule LinkWord
 link_word =
     by_first (only (Name ∷ [])) (name ▹ λ site. symbol 46 ▹ λ dot. name ▹ λ agent. give (link.Partner site agent))
-    (word want.Label link_of)
+    (word link_of)
 
 -- `/` and what stands behind it, where an edit may be written
 abbrev pub right : {A : Type 0} → Bool → Rule A → Rule (Option A)
@@ -117,7 +117,7 @@ agent edit =
 
 -- `.`, or an agent
 abbrev pub item : Bool → Rule Item
-item edit = expect want.Item (only (Name ∷ Symbol 46 ∷ [])) (by_first (only (Name ∷ [])) (agent edit ▹ λ a. give (Agent a)) (word want.Other absent_of))
+item edit = by_first (only (Name ∷ [])) (agent edit ▹ λ a. give (Agent a)) (word absent_of)
 
 abbrev pub items : Bool → Rule (List Item)
 items edit = listed (only (Name ∷ Symbol 46 ∷ [])) (item edit)

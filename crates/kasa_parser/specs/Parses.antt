@@ -40,7 +40,7 @@ with_more given (Err fault) = Err fault
 
 abbrev pub with_read : List ℕ → Declaration → Outcome (Option Decl) → Result (List Decl) ParseFault → Result (List Decl) ParseFault
 with_read text d (got given left) more = with_more given more
-with_read text d (stuck want left) more = Err (fault_of text d.ending d.words want left)
+with_read text d (stuck left) more = Err (fault_of text d.ending d.words left)
 
 -- what the declarations give, or the first fault
 abbrev pub read_all : List ℕ → List Declaration → Result (List Decl) ParseFault

@@ -1,20 +1,17 @@
 -- The parts that a grammar is made of. A rule says which words are which tree (`Is`), and how words are read from the left
--- (`read`). The laws of `proofs/Laws` say that the second is what the first says, at each part.
-use Rattle.std.specs.Prelude.{◌≡◌, ◌⊎◌, ℕ, zero, suc, List, [], ◌∷◌, ◌++◌, length, Bool, true, if◌then◌else◌, Option, Some, None}
-use Rattle.kasa_syntax.specs.declared.tokens.TokenKind.{TokenKind}
+-- (`read`). The laws of `proofs/RuleLaws` say, for each part, that the second finds what the first says.
+use Rattle.std.specs.Prelude.{◌≡◌, ◌⊎◌, ℕ, zero, suc, List, [], ◌∷◌, ◌++◌, length, if◌then◌else◌, Option, Some, None}
 use Rattle.kasa_syntax.specs.declared.tokens.TokenKind.TheVariants.{Symbol}
-use Rattle.kasa_parser.specs.declared.wanted.Wanted.{Wanted}
-use Rattle.kasa_parser.specs.declared.wanted.Wanted.TheVariants.{Other}
-use Rattle.kasa_parser.specs.Words.{Word, Kinds, only, ◌or◌, same_kind, is_of, starts, rest}
+use Rattle.kasa_parser.specs.Words.{Word, Kinds, only, ◌or◌, same_kind, starts, rest}
 
 -- what was read and the words that are left, or the words that are left where the first of them can't stand
 pub data Outcome (A : Type 0) : Type 0 where
   got : A → List Word → Outcome A
-  stuck : Wanted → List Word → Outcome A
+  stuck : List Word → Outcome A
 
 abbrev pub behind : {A B : Type 0} → Outcome A → (A → List Word → Outcome B) → Outcome B
 behind (got x left) next = next x left
-behind (stuck want left) next = stuck want left
+behind (stuck left) next = stuck left
 
 pub record Rule (A : Type 0) : Type 1 where
   pub Is : List Word → A → Type 0
@@ -27,16 +24,16 @@ give x = record { Is = λ ws y. (ws ≡ []) × (y ≡ x); read = λ ws. got x ws
 
 -- ---- one word, of which something is taken
 
-abbrev pub one_word : {A : Type 0} → Option A → Wanted → List Word → Outcome A
-one_word None want ws = stuck want ws
-one_word (Some x) want ws = got x (rest ws)
+abbrev pub one_word : {A : Type 0} → Option A → List Word → Outcome A
+one_word None ws = stuck ws
+one_word (Some x) ws = got x (rest ws)
 
 abbrev pub at_first : {A : Type 0} → (Word → Option A) → List Word → Option A
 at_first take [] = None
 at_first take (w ∷ ws) = take w
 
-abbrev pub word : {A : Type 0} → Wanted → (Word → Option A) → Rule A
-word want take = record { Is = λ ws x. (w : Word) × (take w ≡ Some x) × (ws ≡ w ∷ []); read = λ ws. one_word (at_first take ws) want ws }
+abbrev pub word : {A : Type 0} → (Word → Option A) → Rule A
+word take = record { Is = λ ws x. (w : Word) × (take w ≡ Some x) × (ws ≡ w ∷ []); read = λ ws. one_word (at_first take ws) ws }
 
 -- ---- one after another: the second may hang on what the first gave
 
@@ -54,20 +51,6 @@ by_first kinds r s = record {
   Is = λ ws x. r.Is ws x ⊎ s.Is ws x;
   read = λ ws. if starts kinds ws then r.read ws else s.read ws;
 }
-
--- ---- a rule whose first word is wanted as something
-
-abbrev pub expect : {A : Type 0} → Wanted → Kinds → Rule A → Rule A
-expect want kinds r = record { Is = r.Is; read = λ ws. if starts kinds ws then r.read ws else stuck want ws }
-
--- ---- a rule behind which, where words are left, one of these kinds stands, and else something is wanted
-
-abbrev pub is_up_to : List TokenKind → List Word → Bool
-is_up_to kinds [] = true
-is_up_to kinds (w ∷ ws) = is_of kinds w.kind
-
-abbrev pub up_to : {A : Type 0} → Wanted → List TokenKind → Rule A → Rule A
-up_to want kinds r = record { Is = r.Is; read = λ ws. behind (r.read ws) (λ x left. if is_up_to kinds left then got x left else stuck want left) }
 
 -- ---- one after another of the same rule, which has a word at least, as far as words of these kinds begin one
 
@@ -92,7 +75,7 @@ symbol_at b w = if same_kind (Symbol b) w.kind then Some tt else None
 
 -- the symbol with this byte
 abbrev pub symbol : ℕ → Rule (Unit {0})
-symbol b = word Other (symbol_at b)
+symbol b = word (symbol_at b)
 
 -- what begins with such a word, or nothing
 abbrev pub maybe : {A : Type 0} → Kinds → Rule A → Rule (Option A)

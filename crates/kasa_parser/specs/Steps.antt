@@ -1,5 +1,5 @@
 -- What the steps of the reader give.
-use Rattle.std.specs.Prelude.{◌≡◌, ◌≤◌, ◌&&◌, if◌then◌else◌, ℕ, Bool, true, false, not, List, [], ◌∷◌, Option, Some, None, Result, Ok, Err, codes}
+use Rattle.std.specs.Prelude.{◌≡◌, ◌≤◌, ◌-◌, ◌&&◌, if◌then◌else◌, ℕ, Bool, true, false, not, List, [], ◌∷◌, ◌++◌, length, take, Option, Some, None, Result, Ok, Err, codes}
 use Rattle.std.specs.List.{AllByRecursion}
 use Rattle.kasa_syntax.specs.declared.tokens.Token.{Token}
 use Rattle.kasa_parser.specs.declared.reader.Stop.{Stop}
@@ -7,14 +7,14 @@ use Rattle.kasa_parser.specs.declared.reader.Stop.TheVariants.{NoMemory, Stuck}
 use Rattle.kasa_num.specs.declared.Place.{Place}
 use Rattle.kasa_syntax.specs.Place.{place_at}
 use Rattle.kasa_syntax.specs.declared.tokens.TokenKind.TheVariants.{Percent, Symbol}
-use Rattle.kasa_parser.specs.declared.wanted.Wanted.{Wanted}
-use Rattle.kasa_parser.specs.declared.wanted.Wanted.TheVariants.{Item, Label, Other}
 use Rattle.kasa_parser.specs.declared.ParseFault.{ParseFault}
 use Rattle.kasa_parser.specs.declared.ParseFault.TheVariants.{Unexpected, Tokens, Intervention, LongLabel}
 use Rattle.kasa_syntax.specs.declared.tokens.TokenKind.{TokenKind}
 use Rattle.kasa_parser.specs.Declarations.{goes_on}
-use Rattle.kasa_parser.specs.Words.{Word, only, starts, is_of, is_digits}
-use Rattle.kasa_parser.specs.Decls.{is_keyword, is_intervention}
+use Rattle.kasa_parser.specs.Words.{Word, only, starts, begins_with, is_of, is_digits}
+use Rattle.kasa_parser.specs.Grammar.{is_label}
+use Rattle.kasa_parser.specs.Decls.{Said, is_keyword, is_intervention, read_declaration}
+use Rattle.kasa_parser.specs.DeclFaults.{an_agent, a_label}
 use Rattle.kasa_parser.specs.Rules.{Outcome, got, stuck}
 
 -- The outcome on the words before a step is what the step gives, with the words that are left then. Nothing is said where
@@ -22,7 +22,7 @@ use Rattle.kasa_parser.specs.Rules.{Outcome, got, stuck}
 abbrev pub Gives : {A : Type 0} → Outcome A → Result A Stop → List Word → Type 0
 Gives outcome (Ok x) left = outcome ≡ got x left
 Gives outcome (Err NoMemory) left = Unit {0}
-Gives outcome (Err (Stuck want)) left = outcome ≡ stuck want left
+Gives outcome (Err Stuck) left = outcome ≡ stuck left
 
 abbrev pub first : List Word → Option Word
 first [] = None
@@ -36,33 +36,44 @@ has_words (w ∷ ws) = true
 abbrev pub AreWithin : ℕ → List Token → Type 0
 AreWithin size tokens = AllByRecursion (λ t. (t.start ≤ t.end) × (t.end ≤ size)) tokens
 
--- the first word begins within a text of so many bytes
-abbrev pub IsFirstWithin : ℕ → List Word → Type 0
-IsFirstWithin size [] = Unit {0}
-IsFirstWithin size (w ∷ ws) = w.span.start ≤ size
-
 -- ---- faults
 
-abbrev pub begins_with : (Word → Bool) → List Word → Bool
-begins_with test [] = false
-begins_with test (w ∷ ws) = test w
-
--- the fault at a word that can't stand in a declaration of these words, where something is wanted
-abbrev pub fault_at : List Word → Wanted → Word → Place → ParseFault
-fault_at words want w place =
-    if is_keyword (codes "%token") w then Tokens place
-    else (if begins_with (is_keyword (codes "%mod")) words && is_intervention w then Intervention place
-    else at want)
+-- some declaration begins with these words, as reading them tells
+abbrev pub can_go_on : List Word → Bool
+can_go_on ws = goes_on_at (read_declaration ws)
   where
-    at : Wanted → ParseFault
-    at Item = if is_of (Symbol 124 ∷ []) w.kind && not (starts (only (Percent ∷ [])) words) then Tokens place else Unexpected place
-    at Label = if is_digits w then LongLabel place else Unexpected place
-    at Other = Unexpected place
+    goes_on_at : Outcome Said → Bool
+    goes_on_at (got said left) = true
+    goes_on_at (stuck []) = true
+    goes_on_at (stuck (w ∷ left)) = false
+
+-- the words before those that are left
+abbrev pub before : List Word → List Word → List Word
+before words left = take (length words - length left) words
+
+abbrev pub is_item_place : List Word → Bool
+is_item_place used = not (starts (only (Percent ∷ [])) used) && can_go_on (used ++ an_agent)
+
+-- digits that stand for more than any label
+abbrev pub is_long : Word → Bool
+is_long w = is_digits w && not (is_label w.bytes)
+
+-- the fault at a word that can't stand behind these
+abbrev pub fault_at : List Word → Word → Place → ParseFault
+fault_at used w place =
+    if is_keyword (codes "%token") w then Tokens place
+    else (if begins_with (is_keyword (codes "%mod")) used && is_intervention w then Intervention place
+    else (if is_of (Symbol 124 ∷ []) w.kind && is_item_place used then Tokens place
+    else (if is_long w && can_go_on (used ++ a_label ∷ []) then LongLabel place else Unexpected place)))
 
 -- the fault where a declaration, which ends at an offset, can't be read on before the words that are left
-abbrev pub fault_of : List ℕ → ℕ → List Word → Wanted → List Word → ParseFault
-fault_of text ending words want [] = Unexpected (place_at text ending)
-fault_of text ending words want (w ∷ ws) = fault_at words want w (place_at text w.span.start)
+abbrev pub fault_of : List ℕ → ℕ → List Word → List Word → ParseFault
+fault_of text ending words [] = Unexpected (place_at text ending)
+fault_of text ending words (w ∷ ws) = fault_at (before words (w ∷ ws)) w (place_at text w.span.start)
+
+-- the last of some words
+abbrev pub IsLeft : List Word → List Word → Type 0
+IsLeft words left = (used : List Word) × (words ≡ used ++ left)
 
 -- ---- splitting
 

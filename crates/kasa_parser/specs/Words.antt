@@ -67,6 +67,11 @@ abbrev pub starts : Kinds → List Word → Bool
 starts kinds [] = false
 starts kinds (w ∷ ws) = has kinds w.kind
 
+-- the first word passes a test
+abbrev pub begins_with : (Word → Bool) → List Word → Bool
+begins_with test [] = false
+begins_with test (w ∷ ws) = test w
+
 abbrev pub rest : List Word → List Word
 rest [] = []
 rest (w ∷ ws) = ws
@@ -86,3 +91,7 @@ abbrev pub are_equal : List ℕ → List ℕ → Bool
 are_equal [] [] = true
 are_equal (x ∷ xs) (y ∷ ys) = (x == y) && are_equal xs ys
 are_equal _ _ = false
+
+-- a word of this kind, of which nothing else is told
+abbrev pub a_word : TokenKind → Word
+a_word k = record { kind = k; bytes = []; span = record { start = 0; end = 0 } }

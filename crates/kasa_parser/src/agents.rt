@@ -7,7 +7,6 @@ ghost use Rattle.kasa_parser.specs.Steps.{Gives};
 ghost use Rattle.kasa_parser.specs.Grammar.{state_word, link_word, right, state, link_text, site, sites, mark, agent, item, items};
 
 use crate::reader::{Reader, Stop};
-use crate::wanted::Wanted;
 use kasa_syntax::{
     AgentText, Item, Items, LinkText, LinkWord, Mark, SiteText, SiteTexts, StateText, StateWord,
 };
@@ -20,10 +19,10 @@ impl<'a> Reader<'a> {
         ensures { Gives (state_word.read self.old) result self.new }
     {
         let Some(word) = self.peek() else {
-            return Err(Stop::Stuck(Wanted::Other));
+            return Err(Stop::Stuck);
         };
         let Some(state) = word.state() else {
-            return Err(Stop::Stuck(Wanted::Other));
+            return Err(Stop::Stuck);
         };
         self.advance();
         Ok(state)
@@ -60,10 +59,10 @@ impl<'a> Reader<'a> {
             return Ok(LinkWord::Partner { site, agent });
         }
         let Some(word) = self.peek() else {
-            return Err(Stop::Stuck(Wanted::Label));
+            return Err(Stop::Stuck);
         };
         let Some(link) = word.link() else {
-            return Err(Stop::Stuck(Wanted::Label));
+            return Err(Stop::Stuck);
         };
         self.advance();
         Ok(link)
@@ -184,7 +183,7 @@ impl<'a> Reader<'a> {
             return Ok(Item::Agent(self.agent(alloc, edit)?));
         }
         if !self.is_at(b'.') {
-            return Err(Stop::Stuck(Wanted::Item));
+            return Err(Stop::Stuck);
         }
         self.advance();
         Ok(Item::Absent)

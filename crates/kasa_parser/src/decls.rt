@@ -3,15 +3,13 @@ ghost use Rattle.std.specs.Prelude.{◌≡◌, ◌∷◌, [], true, false};
 ghost use Rattle.std.specs.List.{list_any};
 ghost use Rattle.kasa_syntax.specs.declared.tokens.TokenKind.TheVariants.{Name as name_kind, Number as number_kind, Quoted as quoted_kind, Percent as percent_kind, Arrow as arrow_kind, BothArrow as both_kind, Symbol as symbol_kind};
 ghost use Rattle.kasa_parser.specs.Words.{Word, starts, only, has};
-ghost use Rattle.kasa_parser.specs.Rules.{got, behind, up_to, is_up_to, expect, listed_some, maybe, word};
-ghost use Rattle.kasa_parser.specs.Grammar.{agent, items};
-ghost use Rattle.kasa_parser.specs.declared.wanted.Wanted.TheVariants.{Item as an_item, Other as other};
-ghost use Rattle.kasa_parser.specs.Decls.{is_edited_site, is_mark, is_edited, state_names, states, links, site_decls, agent_text, an_agent, init_agents, rule_text, states_or_none, site_decl, quoted_of, state_name_of, last_or, counted, run_of, run_kinds, run_test, closed, arrow, body_behind, body, rate, count};
+ghost use Rattle.kasa_parser.specs.Rules.{got, behind, listed_some, maybe, word};
+ghost use Rattle.kasa_parser.specs.Grammar.{agent};
+ghost use Rattle.kasa_parser.specs.Decls.{is_edited_site, is_mark, is_edited, state_names, states, links, site_decls, agent_text, init_agents, rule_text, states_or_none, site_decl, quoted_of, state_name_of, last_or, counted, run_of, run_kinds, run_test, closed, arrow, body_behind, body, rate, count};
 ghost use Rattle.kasa_parser.specs.Steps.{Gives};
 
 use crate::reader::{Reader, Stop};
 use crate::run::Run;
-use crate::wanted::Wanted;
 use kasa_syntax::{
     AgentDecl, AgentText, AgentTexts, Form, Item, Items, Mark, RuleText, SiteDecl, SiteDecls,
     SiteText, Span, Spans,
@@ -72,7 +70,7 @@ impl<'a> Reader<'a> {
                 break;
             }
             if !word.is_in_run(which) {
-                return Err(Stop::Stuck(Wanted::Other));
+                return Err(Stop::Stuck);
             }
             self.advance();
         }
@@ -97,13 +95,13 @@ impl<'a> Reader<'a> {
     // ---- agent declarations
 
     fn state_name(&mut self) -> Result<Span, Stop>
-        ensures { Gives ((word other state_name_of).read self.old) result self.new }
+        ensures { Gives ((word state_name_of).read self.old) result self.new }
     {
         let Some(word) = self.peek() else {
-            return Err(Stop::Stuck(Wanted::Other));
+            return Err(Stop::Stuck);
         };
         let Some(name) = word.state_name() else {
-            return Err(Stop::Stuck(Wanted::Other));
+            return Err(Stop::Stuck);
         };
         self.advance();
         Ok(name)
@@ -217,23 +215,14 @@ impl<'a> Reader<'a> {
         if is_open { self.symbol(b')') } else { Ok(()) }
     }
 
-    fn an_agent(&mut self, alloc: Global) -> Result<AgentText, Stop>
-        ensures { Gives (an_agent.read self.old) result self.new }
-    {
-        if !self.is_at_name() {
-            return Err(Stop::Stuck(Wanted::Item));
-        }
-        self.agent(alloc, false)
-    }
-
     fn agents(&mut self, alloc: Global) -> Result<AgentTexts, Stop>
-        ensures { Gives ((listed_some (only (name_kind ∷ [])) an_agent).read self.old) result self.new }
+        ensures { Gives ((listed_some (only (name_kind ∷ [])) (agent false)).read self.old) result self.new }
     {
         let mut agents = Vec::new(alloc);
-        agents.push(self.an_agent(alloc)?)?;
+        agents.push(self.agent(alloc, false)?)?;
         while self.is_at_next_site() {
             self.pass_comma();
-            agents.push(self.an_agent(alloc)?)?;
+            agents.push(self.agent(alloc, false)?)?;
         }
         Ok(AgentTexts::new(agents))
     }
@@ -250,16 +239,6 @@ impl<'a> Reader<'a> {
 
     // ---- rules
 
-    // Nothing is left, or one of the symbols that may follow items stands first.
-    fn is_at_right_end(&self) -> bool
-        ensures { result ≡ is_up_to (symbol_kind 64 ∷ []) self.now }
-    {
-        match self.peek() {
-            None => true,
-            Some(word) => word.is_symbol(b'@'),
-        }
-    }
-
     fn is_at_arrow(&self) -> bool
         ensures { result ≡ starts (only (arrow_kind ∷ both_kind ∷ [])) self.now }
     {
@@ -269,53 +248,24 @@ impl<'a> Reader<'a> {
         }
     }
 
-    fn is_at_left_end(&self) -> bool
-        ensures { result ≡ is_up_to (arrow_kind ∷ both_kind ∷ symbol_kind 64 ∷ []) self.now }
-    {
-        match self.peek() {
-            None => true,
-            Some(word) => word.is_arrow() || word.is_symbol(b'@'),
-        }
-    }
-
-    fn right_items(&mut self, alloc: Global) -> Result<Items, Stop>
-        ensures { Gives ((up_to an_item (symbol_kind 64 ∷ []) (items false)).read self.old) result self.new }
-    {
-        let items = self.items(alloc, false)?;
-        if !self.is_at_right_end() {
-            return Err(Stop::Stuck(Wanted::Item));
-        }
-        Ok(items)
-    }
-
-    fn left_items(&mut self, alloc: Global) -> Result<Items, Stop>
-        ensures { Gives ((up_to an_item (arrow_kind ∷ both_kind ∷ symbol_kind 64 ∷ []) (items true)).read self.old) result self.new }
-    {
-        let items = self.items(alloc, true)?;
-        if !self.is_at_left_end() {
-            return Err(Stop::Stuck(Wanted::Item));
-        }
-        Ok(items)
-    }
-
     fn arrow(&mut self, alloc: Global, left: Items) -> Result<Form, Stop>
         ensures { Gives ((arrow left).read self.old) result self.new }
     {
         let Some(word) = self.peek() else {
-            return Err(Stop::Stuck(Wanted::Other));
+            return Err(Stop::Stuck);
         };
         let Some(both) = word.arrow() else {
-            return Err(Stop::Stuck(Wanted::Other));
+            return Err(Stop::Stuck);
         };
         self.advance();
-        let right = self.right_items(alloc)?;
+        let right = self.items(alloc, false)?;
         Ok(Form::Arrow { left, right, both })
     }
 
     fn body(&mut self, alloc: Global) -> Result<Form, Stop>
         ensures { Gives (body.read self.old) result self.new }
     {
-        let items = self.left_items(alloc)?;
+        let items = self.items(alloc, true)?;
         if items.as_slice().is_empty() {
             return self.arrow(alloc, items);
         }
@@ -338,7 +288,7 @@ impl<'a> Reader<'a> {
 
     // The quoted name of a rule, where one stands.
     fn quoted(&mut self) -> Option<Span>
-        ensures { (maybe (only (quoted_kind ∷ [])) (word other quoted_of)).read self.old ≡ got result self.new }
+        ensures { (maybe (only (quoted_kind ∷ [])) (word quoted_of)).read self.old ≡ got result self.new }
     {
         let word = self.peek()?;
         let name = word.quoted()?;

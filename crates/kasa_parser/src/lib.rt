@@ -1,4 +1,4 @@
-//! From the words of a rule's side to its items, or the first fault.
+//! From the tokens of a text to its declarations, or the first fault.
 #![tactic(auto)]
 
 mod agents;
@@ -8,7 +8,6 @@ mod parser;
 mod reader;
 mod run;
 mod split;
-mod wanted;
 mod word;
 
 use kasa_num::Place;
@@ -19,13 +18,13 @@ pub use laws::{
 pub use parser::parse;
 use thiserror::Error;
 
-/// Why words are no side of a rule.
+/// Why the tokens of a text give no declarations.
 #[derive(Debug, Drop, PartialEq, Eq, Error)]
 pub enum ParseFault {
     /// There is no memory for the tree.
     #[error("no memory")]
     NoMemory,
-    /// A word that the grammar doesn't have there, or a side that ends too early.
+    /// A token that the grammar doesn't have there, or a declaration that ends too early.
     #[error("this is not expected here")]
     Unexpected(Place),
     /// `%token`, or `|` where an item may stand: tokens aren't part of the language that is read.
@@ -38,6 +37,3 @@ pub enum ParseFault {
     #[error("the label is too long")]
     LongLabel(Place),
 }
-
-#[cfg(test)]
-mod tests;

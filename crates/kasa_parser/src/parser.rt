@@ -1,4 +1,4 @@
-// From the words of a declaration to what it says.
+// From the tokens of declarations to what they say, or the first fault.
 
 ghost use Rattle.std.specs.Prelude.{◌≡◌, ◌≢◌, ◌≤◌, ◌++◌, ◌∷◌, List, [], None, Ok, Err, OnOk, IfOk, IfErr, length};
 ghost use Rattle.kasa_lexer.specs.Tokens.{IsOutcome as IsLexed};
@@ -7,7 +7,7 @@ ghost use Rattle.kasa_parser.specs.Words.{Word as SpecWord, words_of};
 ghost use Rattle.kasa_parser.specs.Decls.{said_of, declaration, behind_keyword, span_of};
 ghost use Rattle.kasa_parser.specs.Declarations.{Declaration};
 ghost use Rattle.kasa_parser.specs.Parses.{IsOutcome, declaration_from, read_all};
-ghost use Rattle.kasa_parser.specs.Steps.{AreWithin, IsFirstWithin, Gives, first, fault_at, fault_of};
+ghost use Rattle.kasa_parser.specs.Steps.{AreWithin, Gives, can_go_on, fault_at, fault_of, IsLeft};
 ghost use Rattle.kasa_parser.specs.Split.{declaration_of, given_of, AllWithin, read_behind, given_list};
 ghost use Rattle.kasa_parser.specs.declared.ParseFault.TheVariants.{NoMemory as no_memory};
 
@@ -15,46 +15,10 @@ use crate::ParseFault;
 use crate::reader::{Reader, Stop};
 use crate::run::{Keyword, Run};
 use crate::split::{Declared, split_tokens};
-use crate::wanted::Wanted;
 use crate::word::Word;
-use kasa_num::Place;
-use kasa_syntax::{Decl, InitDecl, Span, Token, place_of};
+use kasa_num::{NoMemory, Place};
+use kasa_syntax::{Decl, InitDecl, Span, Token, TokenKind, place_of};
 use std::alloc::Global;
-
-// The fault at a word that can't stand in a declaration with this first word.
-fn fault_at(begin: &Word, want: Wanted, word: &Word, place: Place) -> ParseFault
-    ensures { (more : List SpecWord) → result ≡ fault_at (begin.now ∷ more) want word.now place }
-{
-    if word.is_keyword(b"%token") {
-        return ParseFault::Tokens(place);
-    }
-    if begin.is_keyword(b"%mod") && word.is_intervention() {
-        return ParseFault::Intervention(place);
-    }
-    match want {
-        Wanted::Item if word.is_symbol(b'|') && !begin.is_percent() => ParseFault::Tokens(place),
-        Wanted::Label if word.is_digits() => ParseFault::LongLabel(place),
-        _ => ParseFault::Unexpected(place),
-    }
-}
-
-// The fault of a declaration of which these words are left.
-fn fault_of(text: &[u8], ending: u32, all: &Reader, want: Wanted, left: &Reader) -> ParseFault
-    requires few { length text.now ≤ 4194304 }
-    requires ending { ending ≤ length text.now }
-    requires some { (first all.now ≡ None) → left.now ≡ [] }
-    requires left { IsFirstWithin (length text.now) left.now }
-    ensures { result ≡ fault_of text.now ending all.now want left.now }
-{
-    let Some(begin) = all.peek() else {
-        return ParseFault::Unexpected(place_of(text, ending));
-    };
-    let Some(word) = left.peek() else {
-        return ParseFault::Unexpected(place_of(text, ending));
-    };
-    let place = place_of(text, word.span.start);
-    fault_at(&begin, want, &word, place)
-}
 
 impl<'a> Reader<'a> {
     fn behind_keyword(
@@ -87,13 +51,13 @@ impl<'a> Reader<'a> {
         ensures { Gives (said_of start (declaration.read self.old)) result self.new }
     {
         let Some(word) = self.peek() else {
-            return Err(Stop::Stuck(Wanted::Other));
+            return Err(Stop::Stuck);
         };
         if !word.is_percent() {
             return Ok(Some(Decl::Rule(self.rule(alloc, start)?)));
         }
         let Some(keyword) = word.keyword() else {
-            return Err(Stop::Stuck(Wanted::Other));
+            return Err(Stop::Stuck);
         };
         self.advance();
         self.behind_keyword(alloc, keyword, start)
@@ -104,12 +68,100 @@ impl<'a> Reader<'a> {
         ensures { Gives (declaration_from self.old) result self.new }
     {
         if self.peek().is_none() {
-            return Err(Stop::Stuck(Wanted::Other));
+            return Err(Stop::Stuck);
         }
         let start = self.span();
         let said = self.said(alloc, start)?;
         self.end()?;
         Ok(said)
+    }
+}
+
+// The words of an agent without sites.
+const AN_AGENT: [Token; 3] = [
+    Token {
+        kind: TokenKind::Name,
+        start: 0,
+        end: 0,
+    },
+    Token {
+        kind: TokenKind::Symbol(b'('),
+        start: 0,
+        end: 0,
+    },
+    Token {
+        kind: TokenKind::Symbol(b')'),
+        start: 0,
+        end: 0,
+    },
+];
+
+// A label, which is 0.
+const A_LABEL: [Token; 1] = [Token {
+    kind: TokenKind::Number,
+    start: 0,
+    end: 0,
+}];
+
+// Some declaration begins with these tokens and more behind them.
+fn can_go_on(alloc: Global, text: &[u8], before: &[Token], more: &[Token]) -> Result<bool, NoMemory>
+    requires before { AreWithin (length text.now) before.now }
+    requires more { AreWithin (length text.now) more.now }
+    ensures { IfOk result (λ goes. goes ≡ can_go_on (words_of text.now before.now ++ words_of text.now more.now)) }
+{
+    let mut tokens = Vec::from_slice(alloc, before)?;
+    tokens.extend_from_slice(more)?;
+    let mut reader = Reader::new(text, tokens.as_slice());
+    match reader.declaration(alloc) {
+        Ok(_) => Ok(true),
+        Err(Stop::NoMemory) => Err(NoMemory),
+        Err(Stop::Stuck) => Ok(reader.peek().is_none()),
+    }
+}
+
+// The fault at a word that can't stand behind these tokens.
+fn fault_at(
+    alloc: Global,
+    text: &[u8],
+    before: &[Token],
+    word: &Word,
+    place: Place,
+) -> Result<ParseFault, NoMemory>
+    requires { AreWithin (length text.now) before.now }
+    ensures { IfOk result (λ fault. fault ≡ fault_at (words_of text.now before.now) word.now place) }
+{
+    let used = Reader::new(text, before);
+    if word.is_keyword(b"%token") {
+        return Ok(ParseFault::Tokens(place));
+    }
+    if used.is_at_keyword(b"%mod") && word.is_intervention() {
+        return Ok(ParseFault::Intervention(place));
+    }
+    if word.is_symbol(b'|') && !used.is_at_percent() && can_go_on(alloc, text, before, &AN_AGENT)? {
+        return Ok(ParseFault::Tokens(place));
+    }
+    if word.is_long() && can_go_on(alloc, text, before, &A_LABEL)? {
+        return Ok(ParseFault::LongLabel(place));
+    }
+    Ok(ParseFault::Unexpected(place))
+}
+
+// The fault of a declaration of which these words are left.
+fn fault_of(alloc: Global, text: &[u8], one: &Declared, left: &Reader) -> ParseFault
+    requires few { length text.now ≤ 4194304 }
+    requires tokens { AreWithin (length text.now) one.now.tokens.items }
+    requires ending { one.now.ending ≤ length text.now }
+    requires left { IsLeft (words_of text.now one.now.tokens.items) left.now }
+    ensures { result ≢ no_memory → result ≡ fault_of text.now one.now.ending (words_of text.now one.now.tokens.items) left.now }
+{
+    let Some(word) = left.peek() else {
+        return ParseFault::Unexpected(place_of(text, one.ending));
+    };
+    let place = place_of(text, word.span.start);
+    let before = &one.tokens[..one.tokens.len() - left.len()];
+    match fault_at(alloc, text, before, &word, place) {
+        Ok(fault) => fault,
+        Err(_) => ParseFault::NoMemory,
     }
 }
 
@@ -121,12 +173,11 @@ fn read_one(alloc: Global, text: &[u8], one: &Declared) -> Result<Option<Decl>, 
     ensures ok { IfOk result (λ given. (done : List SpecDecl) (more : List Declaration) → read_behind text.now done (declaration_of text.now one.now ∷ more) ≡ read_behind text.now (done ++ given_list given) more) }
     ensures err { IfErr result (λ fault. fault ≢ no_memory → (done : List SpecDecl) (more : List Declaration) → read_behind text.now done (declaration_of text.now one.now ∷ more) ≡ Err fault) }
 {
-    let all = Reader::new(text, one.tokens.as_slice());
     let mut reader = Reader::new(text, one.tokens.as_slice());
     match reader.declaration(alloc) {
         Ok(given) => Ok(given),
         Err(Stop::NoMemory) => Err(ParseFault::NoMemory),
-        Err(Stop::Stuck(want)) => Err(fault_of(text, one.ending, &all, want, &reader)),
+        Err(Stop::Stuck) => Err(fault_of(alloc, text, one, &reader)),
     }
 }
 

@@ -1,14 +1,13 @@
 // A reader of words, from the left.
 ghost use Rattle.std.specs.Prelude.{◌≡◌, ◌∷◌, [], true, length, if◌then◌else◌};
-ghost use Rattle.kasa_syntax.specs.declared.tokens.TokenKind.TheVariants.{Name as name_kind, Symbol as symbol_kind};
-ghost use Rattle.kasa_parser.specs.Words.{words_of, rest, starts, only};
+ghost use Rattle.kasa_syntax.specs.declared.tokens.TokenKind.TheVariants.{Name as name_kind, Percent as percent_kind, Symbol as symbol_kind};
+ghost use Rattle.kasa_parser.specs.Words.{words_of, rest, starts, begins_with, only};
 ghost use Rattle.kasa_parser.specs.Grammar.{name};
 ghost use Rattle.kasa_parser.specs.Rules.{symbol};
 ghost use Rattle.kasa_parser.specs.Steps.{AreWithin, Gives, first, has_words};
-ghost use Rattle.kasa_parser.specs.Decls.{span_of, all_read};
+ghost use Rattle.kasa_parser.specs.Decls.{is_keyword, span_of, all_read};
 ghost use Rattle.kasa_parser.specs.declared.reader.Stop.TheVariants.{NoMemory as no_memory};
 
-use crate::wanted::Wanted;
 use crate::word::Word;
 use kasa_syntax::{Span, Token};
 use std::alloc::AllocFailed;
@@ -19,7 +18,7 @@ use std::marker::Model;
 #[derive(Drop)]
 pub enum Stop {
     NoMemory,
-    Stuck(Wanted),
+    Stuck,
 }
 
 impl<T: Drop> From<AllocFailed<T>> for Stop {
@@ -102,6 +101,32 @@ impl<'a> Reader<'a> {
         }
     }
 
+    pub fn is_at_percent(&self) -> bool
+        ensures { result ≡ starts (only (percent_kind ∷ [])) self.now }
+    {
+        match self.peek() {
+            None => false,
+            Some(word) => word.is_percent(),
+        }
+    }
+
+    // The first word is this keyword.
+    pub fn is_at_keyword(&self, spelling: &[u8]) -> bool
+        ensures { result ≡ begins_with (is_keyword spelling.now) self.now }
+    {
+        match self.peek() {
+            None => false,
+            Some(word) => word.is_keyword(spelling),
+        }
+    }
+
+    // How many words are left.
+    pub fn len(&self) -> usize
+        ensures { result ≡ length self.now }
+    {
+        self.tokens.len()
+    }
+
     // Passes a comma that stands first.
     pub fn pass_comma(&mut self)
         ensures { self.new ≡ (if starts (only (symbol_kind 44 ∷ [])) self.old then rest self.old else self.old) }
@@ -115,7 +140,7 @@ impl<'a> Reader<'a> {
         ensures { Gives ((symbol b).read self.old) result self.new }
     {
         if !self.is_at(b) {
-            return Err(Stop::Stuck(Wanted::Other));
+            return Err(Stop::Stuck);
         }
         self.advance();
         Ok(())
@@ -125,10 +150,10 @@ impl<'a> Reader<'a> {
         ensures { Gives (name.read self.old) result self.new }
     {
         let Some(word) = self.peek() else {
-            return Err(Stop::Stuck(Wanted::Other));
+            return Err(Stop::Stuck);
         };
         let Some(name) = word.name() else {
-            return Err(Stop::Stuck(Wanted::Other));
+            return Err(Stop::Stuck);
         };
         self.advance();
         Ok(name)
@@ -151,7 +176,7 @@ impl<'a> Reader<'a> {
         ensures { Gives (all_read tt self.now) result self.now }
     {
         if self.peek().is_some() {
-            Err(Stop::Stuck(Wanted::Other))
+            Err(Stop::Stuck)
         } else {
             Ok(())
         }

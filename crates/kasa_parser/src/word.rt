@@ -3,7 +3,8 @@ ghost use Rattle.std.specs.Prelude.{◌≡◌, ◌∷◌, [], not};
 ghost use Rattle.std.specs.List.{list_any};
 ghost use Rattle.kasa_lexer.specs.Bytes.{is_digit};
 ghost use Rattle.kasa_syntax.specs.declared.tokens.TokenKind.TheVariants.{Name as name_kind, Number as number_kind, Percent as percent_kind, Arrow as arrow_kind, BothArrow as both_kind, Symbol as symbol_kind};
-ghost use Rattle.kasa_parser.specs.Words.{are_digits, are_equal, is_of, has, is_digits};
+ghost use Rattle.kasa_parser.specs.Words.{are_digits, are_equal, is_of, has};
+ghost use Rattle.kasa_parser.specs.Steps.{is_long};
 ghost use Rattle.kasa_parser.specs.Decls.{is_keyword, is_intervention, brackets, run_kinds, run_test, arrow_of, count_of, state_name_of, quoted_of, keyword_of};
 ghost use Rattle.kasa_parser.specs.Grammar.{label_number, label_link, link_of, name_of, state_of};
 
@@ -52,7 +53,10 @@ fn are_equal(bytes: &[u8], spelling: &[u8]) -> bool
     bytes == spelling
 }
 
-// The number that the digits write, None where they aren't digits or it is above 65,535.
+// The greatest number of a label.
+const LONGEST_LABEL: u32 = 65535;
+
+// The number that the digits write, None where they aren't digits or it is above that of any label.
 fn label_of(bytes: &[u8]) -> Option<u16>
     ensures { result ≡ label_number bytes.now }
 {
@@ -62,7 +66,7 @@ fn label_of(bytes: &[u8]) -> Option<u16>
     let mut number = 0u32;
     for b in bytes {
         number = number * 10 + (*b - b'0') as u32;
-        if number > 65535 {
+        if number > LONGEST_LABEL {
             return None;
         }
     }
@@ -95,12 +99,12 @@ impl<'a> Word<'a> {
         matches!(self.kind, TokenKind::Name)
     }
 
-    // A number that is digits alone.
-    pub fn is_digits(&self) -> bool
-        ensures { result ≡ is_digits self.now }
+    // Digits that stand for more than any label.
+    pub fn is_long(&self) -> bool
+        ensures { result ≡ is_long self.now }
     {
         match self.kind {
-            TokenKind::Number => are_digits(self.bytes),
+            TokenKind::Number => are_digits(self.bytes) && label_of(self.bytes).is_none(),
             _ => false,
         }
     }
