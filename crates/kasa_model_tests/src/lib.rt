@@ -1,0 +1,5 @@
+//! What texts say, seen in their models.
+#![tactic(auto)]
+
+#[cfg(test)]
+mod tests;
