@@ -1,5 +1,5 @@
 -- The laws of declarations, by the laws of their parts.
-use Rattle.std.proofs.Common.{◌≡◌, ℕ, List, [], ◌∷◌, ◌++◌, Bool, true, false, not, ◌==◌, ◌||◌, ◌&&◌, if◌then◌else◌, Some, None, refl, sym, ◌∙◌, codes}
+use Rattle.std.proofs.Common.{◌≡◌, List, [], ◌∷◌, Bool, true, false, ◌==◌, ◌||◌, ◌&&◌, if◌then◌else◌, Some, None, refl, codes}
 use Rattle.kasa_syntax.specs.declared.tokens.Span.{Span}
 use Rattle.kasa_syntax.specs.declared.tokens.TokenKind.{TokenKind}
 use Rattle.kasa_syntax.specs.declared.tokens.TokenKind.TheVariants.{Name, Number, Quoted, Percent, Arrow, BothArrow, Symbol}
@@ -9,10 +9,10 @@ use Rattle.kasa_parser.specs.declared.run.Keyword.TheVariants as keyword
 use Rattle.kasa_parser.specs.declared.run.Run.{Run}
 use Rattle.kasa_parser.specs.declared.run.Run.TheVariants.{Links, Mod, Rate}
 use Rattle.kasa_parser.specs.Words.{Word, Kinds, only, but, ◌or◌, same_kind, has, a_word}
-use Rattle.kasa_parser.specs.Rules.{word, maybe, behind_comma}
+use Rattle.kasa_parser.specs.Rules.{word, behind_comma}
 use Rattle.kasa_parser.specs.Grammar.{agent}
-use Rattle.kasa_parser.specs.Decls.{is_keyword, is_intervention, passing, run, brackets, run_kinds, run_test, run_of, state_name_at, state_name_of, quoted_at, quoted_of, arrow_at, arrow_of, count_at, count_of, keyword_of, state_names, states, links, declared_parts, site_decl, site_decls, agent_text, counted, closed, init_agents, arrow, body_behind, body, rate, rule_text, behind_keyword, declaration}
-use Rattle.kasa_parser.proofs.KindSets.{false_true, both, disjoint, within}
+use Rattle.kasa_parser.specs.Decls.{passing, run, brackets, run_kinds, run_test, run_of, state_name_at, state_name_of, quoted_at, quoted_of, arrow_at, arrow_of, count_at, count_of, keyword_of, state_names, states, links, declared_parts, site_decl, site_decls, agent_text, counted, closed, init_agents, arrow, body_behind, body, rate, rule_text, behind_keyword, declaration}
+use Rattle.kasa_parser.proofs.KindSets.{both, disjoint, within}
 use Rattle.kasa_parser.proofs.RuleLaws.{IsReader, give-law, word-law, then-law, first-law, many-law, weaken, maybe_none, symbol-law, maybe-law, comma-law, some-law, listed-law}
 use Rattle.kasa_parser.proofs.GrammarLaws.{none_some, name-law, agent-law, items-law}
 

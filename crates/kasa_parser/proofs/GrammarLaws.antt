@@ -1,5 +1,5 @@
 -- The laws of the grammar's rules, by the laws of their parts.
-use Rattle.std.proofs.Common.{◌≡◌, inl, inr, ℕ, List, [], ◌∷◌, Bool, true, false, ◌==◌, if◌then◌else◌, Some, None, refl, sym}
+use Rattle.std.proofs.Common.{◌≡◌, [], ◌∷◌, Bool, true, false, ◌==◌, if◌then◌else◌, Some, None, refl}
 use Rattle.kasa_syntax.specs.declared.tokens.Span.{Span}
 use Rattle.kasa_syntax.specs.declared.tokens.TokenKind.{TokenKind}
 use Rattle.kasa_syntax.specs.declared.tokens.TokenKind.TheVariants.{Name, Number, Underscore, Symbol}

@@ -9,4 +9,5 @@ mod Whole
 mod Said
 mod FaultLaws
 mod SplitLemmas
+mod PartLemmas
 mod TextLaws

@@ -1,5 +1,5 @@
 -- The law of each part of a grammar: reading gives what the part says, or the first fault.
-use Rattle.std.proofs.Common.{◌≡◌, ◌≢◌, ◌⊎◌, inl, inr, ℕ, zero, suc, List, [], ◌∷◌, ◌++◌, length, Bool, true, false, not, ◌&&◌, ◌==◌, if◌then◌else◌, Option, Some, None, refl, sym, ap, ◌∙◌, append_assoc, append-nil, arith, ◌≤◌, ◌<◌, length-append}
+use Rattle.std.proofs.Common.{◌≡◌, ◌⊎◌, inl, inr, ℕ, zero, suc, List, [], ◌∷◌, ◌++◌, length, Bool, true, false, ◌&&◌, ◌==◌, if◌then◌else◌, Option, Some, None, refl, sym, ap, ◌∙◌, append_assoc, append-nil, arith, ◌≤◌, ◌<◌, length-append}
 use Rattle.kasa_syntax.specs.declared.tokens.TokenKind.{TokenKind}
 use Rattle.kasa_syntax.specs.declared.tokens.TokenKind.TheVariants.{Symbol}
 use Rattle.kasa_parser.specs.Words.{Word, Kinds, only, ◌or◌, has, same_kind, starts, a_word}

@@ -7,3 +7,4 @@ pub mod DeclFaults
 pub mod Declarations
 pub mod Parses
 pub mod Split
+pub mod Parts

@@ -4,9 +4,17 @@ ghost use Rattle.kasa_syntax.specs.declared.decls.Decl.{Decl};
 ghost use Rattle.kasa_parser.specs.declared.ParseFault.{ParseFault};
 ghost use Rattle.kasa_parser.specs.Words.{Word};
 ghost use Rattle.kasa_parser.specs.Decls.{IsDeclaration};
-ghost use Rattle.kasa_parser.specs.Declarations.{Declaration};
+ghost use Rattle.kasa_parser.specs.Declarations.{Declaration, declarations_of};
+ghost use Rattle.kasa_parser.specs.Parts.{AreParts};
 ghost use Rattle.kasa_parser.specs.Parses.{Parses};
 ghost use Rattle.kasa_parser.specs.DeclFaults.{IsFault};
+
+/// The words of a text's declarations are all its words but breaks, in text order. Each declaration
+/// ends at a break behind its words, outside of all brackets or behind the last word of the text,
+/// or else at the end of the text.
+pub fn declarations_are_parts_of_their_text()
+    ensures { (size : ℕ) (words : List Word) → AreParts size words (declarations_of size words) }
+{}
 
 /// The same words are no two declarations.
 pub fn words_are_one_declaration_at_most()

@@ -13,7 +13,7 @@ mod word;
 use kasa_num::Place;
 pub use laws::{
     a_declaration_has_one_fault_at_most, a_text_has_a_tree_or_a_fault, a_text_has_one_tree_at_most,
-    words_are_one_declaration_at_most,
+    declarations_are_parts_of_their_text, words_are_one_declaration_at_most,
 };
 pub use parser::parse;
 use thiserror::Error;

@@ -1,4 +1,4 @@
-use Rattle.std.proofs.Common.{◌≡◌, ◌≤◌, ◌-◌, Some, ap, length, take, arith, rules}
+use Rattle.std.proofs.Common.{◌≡◌, ◌-◌, Some, ap, length, take, arith, rules}
 use Rattle.kasa_syntax.specs.Place.{place_at}
 use Rattle.kasa_parser.specs.Words.{Word, words_of}
 use Rattle.kasa_parser.specs.Steps.{first, fault_at}
