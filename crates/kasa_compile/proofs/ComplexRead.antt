@@ -6,7 +6,7 @@ use Rattle.kasa_graph.specs.declared.mixture.Agent.{Agent}
 use Rattle.kasa_graph.specs.declared.mixture.AgentSite.{AgentSite}
 use Rattle.kasa_graph.specs.Signature.{TypeEntry, state_counts}
 use Rattle.kasa_graph.specs.Mixture.{agent_in, type_in, site_in, state_in, partner_in, IsMixtureOver}
-use Rattle.kasa_rules.proofs.FiringLemmas.{length-map_from}
+use Rattle.kasa_lists.proofs.Maps.{length-map_from}
 use Rattle.kasa_compile.specs.declared.said.AgentSaid.{AgentSaid}
 use Rattle.kasa_compile.specs.Bonds.{said_at}
 use Rattle.kasa_compile.specs.Complex.{state_given, partner_given, site_given, cell_of, complex_of}
