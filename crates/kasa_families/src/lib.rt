@@ -5,14 +5,10 @@ mod compatible;
 mod family;
 mod first;
 pub mod laws;
-#[cfg(test)]
-mod listed;
 mod patterns;
 mod row;
 mod rows;
 mod shape;
-#[cfg(test)]
-mod tests;
 mod valid;
 
 pub use compatible::{Spot, agrees_at, is_compatible};
