@@ -3,6 +3,5 @@ pub mod GrowLemmas
 pub mod TableRows
 pub mod StepLemmas
 pub mod SettledLemmas
-pub mod NamesLemmas
 pub mod LoopLemmas
 pub mod SolveLemmas

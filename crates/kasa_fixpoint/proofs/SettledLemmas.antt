@@ -6,12 +6,12 @@ use Rattle.kasa_families.specs.declared.family.Family.{Family}
 use Rattle.kasa_families.specs.declared.row.Row.{Row}
 use Rattle.kasa_families.specs.Table.{Table, AreTables, families_of}
 use Rattle.kasa_rules.specs.Rule.{RuleParts, IsRuleOver}
-use Rattle.kasa_pre.proofs.ActsLemmas.{Holds-not_acting}
+use Rattle.kasa_pre.specs.Acts.{NamesTypeOf, TouchesOpen}
+use Rattle.kasa_pre.proofs.ActsLemmas.{nothing_new}
 use Rattle.kasa_views.specs.Results.{AreNewResults}
 use Rattle.kasa_fixpoint.specs.declared.growing.Growing.{Growing}
 use Rattle.kasa_fixpoint.specs.Growing.{TakesIn}
 use Rattle.kasa_fixpoint.specs.Steps.{HaveResults}
-use Rattle.kasa_fixpoint.specs.Acts.{NamesTypeOf, TouchesOpen}
 use Rattle.kasa_fixpoint.proofs.TableRows.{Has-at}
 
 pub HaveResults-taken : (sig : List TypeEntry) (old new : Growing) (r : RuleParts) (f most : ℕ) (rows : List Row) → AreNewResults sig old.tables r f most rows → length rows ≤ most → TakesIn f rows old new → new ≡ old → HaveResults sig new.tables r f
@@ -23,7 +23,7 @@ HaveResults-taken sig old new r f most rows are few takes same row result = elim
 pub HaveResults-idle : (sig : List TypeEntry) (tables : List Table) (r : RuleParts) (f : ℕ) (family : Family) → AreTables sig tables → IsRuleOver sig r → slice_get (families_of tables) f ≡ Some family → (NamesTypeOf r family → ⊥) → (TouchesOpen r → ⊥) → HaveResults sig tables r f
 HaveResults-idle sig tables r f family ok rule named not_named not_open row result =
     let same : result.family ≡ family = let e = result.numbered in cc in
-    let holds = Holds-not_acting sig tables ok r rule family (f, named) row (rw same at result.valid) (λ acts. elim acts [ inl names ↦ not_named names | inr (n, s, has, touches, leaves) ↦ not_open (n, (s, has, touches, leaves)) ]) (rw same at result.yielded) in
+    let holds = nothing_new r family (λ acts. elim acts [ inl names ↦ not_named names | inr touches ↦ not_open touches ]) sig tables row ok rule (f, named) (rw same at result.valid) (rw same at result.yielded) in
     Has-at tables f family row ok.different named holds
 
 -- two facts of one answer

@@ -1,4 +1,3 @@
 pub mod Limit
 pub mod Growing
 pub mod Steps
-pub mod Acts

@@ -1,7 +1,6 @@
 //! The least closed tables of a model over families of patterns.
 #![tactic(auto)]
 
-mod acts;
 mod fault;
 mod growing;
 mod rounds;

@@ -13,16 +13,16 @@ ghost use Rattle.kasa_pre.specs.Closed.{IsClosed, IsLeast, LemmaHolds, Cover};
 ghost use Rattle.kasa_views.specs.View.{IsView};
 ghost use Rattle.kasa_fixpoint.specs.declared.fault.SolveFault.TheVariants.{TooManyRows as too_many_rows};
 ghost use Rattle.kasa_fixpoint.specs.Limit.{PassesLimit};
-ghost use Rattle.kasa_fixpoint.specs.Acts.{TouchesOpen};
+ghost use Rattle.kasa_pre.specs.Acts.{TouchesOpen};
 ghost use Rattle.kasa_fixpoint.specs.Growing.{HasGrown};
 ghost use Rattle.kasa_fixpoint.specs.Steps.{IsUnderWay, IsStep, HoldsOccurring, HaveResults};
 
-use crate::acts::{names_type_of, touches_open};
 use crate::fault::SolveFault;
 use crate::growing::Growing;
 use kasa_families::{Family, Rows};
 use kasa_graph::Mixture;
 use kasa_num::FamilyNo;
+use kasa_pre::{acts_on_all, names_type_of};
 use kasa_rules::{Model, Rule};
 use kasa_tables::PlainTables;
 use kasa_views::{initial, new_results};
@@ -179,27 +179,27 @@ fn apply(
     ensures too_many { result ≡ Err too_many_rows → PassesLimit growing.old.most model.now (families_of growing.old.tables) }
 {
     let mut grew = false;
-    let anywhere = touches_open(&model.sig, rule);
+    let on_all = acts_on_all(rule);
     let families = growing.tables.families();
     for f in 0..families {
-        grew |= apply_to(alloc, model, rule, anywhere, FamilyNo(f as u16), growing)?;
+        grew |= apply_to(alloc, model, rule, on_all, FamilyNo(f as u16), growing)?;
     }
     Ok(grew)
 }
 
-// Inserts what the rule yields of one family, where it can change the family at all.
+// Inserts what the rule yields of one family, where it acts on the family.
 fn apply_to(
     alloc: Global,
     model: &Model,
     rule: &Rule,
-    anywhere: bool,
+    on_all: bool,
     f: FamilyNo,
     growing: &mut Growing,
 ) -> Result<bool, SolveFault>
     requires under_way { IsUnderWay model.now growing.old }
     requires rule { Has model.now.rules rule.now }
     requires over { IsRuleOver model.now.sig rule.now }
-    requires anywhere { TouchesOpen rule.now → IsTrue anywhere }
+    requires on_all { TouchesOpen rule.now → IsTrue on_all }
     requires family { f < length growing.old.tables }
     ensures step { IfOk result (λ _. IsStep model.now growing.old growing.new) }
     ensures grown { IfOk result (λ grew. HasGrown growing.old growing.new grew) }
@@ -209,7 +209,7 @@ fn apply_to(
     let Some(family) = growing.tables.family(f) else {
         return Ok(false);
     };
-    if !anywhere && !names_type_of(rule, family) {
+    if !on_all && !names_type_of(rule, family) {
         return Ok(false);
     }
     insert_results(alloc, model, rule, f, growing)

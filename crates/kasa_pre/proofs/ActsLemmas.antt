@@ -1,6 +1,7 @@
 -- What a rule that doesn't act on a family yields of it stands in the tables.
-use Rattle.std.proofs.Common.{subst, ◌≡◌, ℕ, zero, suc, ◌+◌, ◌<◌, ◌⊎◌, inl, inr, true, List, [], ◌∷◌, ◌++◌, refl, sym, ap, ◌∙◌, length, arith}
-use Rattle.std.specs.Prelude.{Option, Some, None, slice_get}
+use Rattle.std.proofs.Common.{subst, ◌≡◌, ℕ, zero, suc, ◌+◌, ◌<◌, ◌⊎◌, inl, inr, List, [], ◌∷◌, ◌++◌, refl, sym, ap, ◌∙◌, length, arith}
+use Rattle.std.specs.Prelude.{Option, Some, None, IsSome, Bool, true, false, IsTrue, ◌↔◌, slice_get, option_map}
+use Rattle.std.specs.Bool.{OnFalse}
 use Rattle.std.proofs.lemmas.List.{length-map}
 use Rattle.std.proofs.lemmas.Option.{slice_get_within}
 use Rattle.kasa_graph.specs.declared.pattern.LinkTest.{LinkTest}
@@ -20,14 +21,16 @@ use Rattle.kasa_families.specs.Row.{IsRow}
 use Rattle.kasa_families.specs.Pattern.{row_pattern}
 use Rattle.kasa_families.specs.Table.{Table, AreTables, families_of, Holds}
 use Rattle.kasa_rules.specs.declared.rule.NodeAction.{NodeAction}
-use Rattle.kasa_rules.specs.Rule.{RuleParts, fate_at, written_link, action_at, touched, IsRuleOver}
+use Rattle.kasa_rules.specs.declared.rule.MadeAgent.{MadeAgent}
+use Rattle.kasa_rules.specs.Rule.{RuleParts, fate_at, written_link, action_at, made_type, touched, IsRuleOver}
 use Rattle.kasa_graph.proofs.ListLemmas.{some_at, slice_get-append_left, slice_get-append_right}
 use Rattle.kasa_pre.specs.declared.Stand.{Stand}
 use Rattle.kasa_pre.specs.declared.Stand.TheVariants.{Left, Made, Outside}
 use Rattle.kasa_pre.specs.declared.FreedBy.{FreedBy}
 use Rattle.kasa_pre.specs.Place.{ImpliesAt, IsPlace}
 use Rattle.kasa_pre.specs.Before.{place_from, place_of, outside_types}
-use Rattle.kasa_pre.specs.Yields.{Yields, LeavesOpen, ActsOn}
+use Rattle.kasa_pre.specs.Yields.{Yields}
+use Rattle.kasa_pre.specs.Acts.{LeavesOpen, TouchesOpenAt, ActsOn, YieldsNothingNew}
 use Rattle.kasa_graph.proofs.ShapeLemmas.{IsShaped, agent_at-node, node_of_agent, node_of_site, site_or_any}
 use Rattle.kasa_families.proofs.RowPattern.{length_of, row_types, types_of-row_pattern}
 use Rattle.kasa_graph.proofs.TestLemmas.{agent_at-types}
@@ -178,7 +181,7 @@ module _ (sig : List TypeEntry) (tables : List Table) (ok : AreTables sig tables
       let within : f.from < length r.left = rw (← rule.is_rule.actions) (touched_within r f.from f.«at» gone) in
       let implied = rw back at (yields.before.left_links f.from f.«at») in
       elim (open_or_bond yields.pattern (link_test r.left f.from f.«at») (length r.left + f.node) f.site implied) [
-        | inl leaves ↦ not (inr (f.from, f.«at», touched_site f back within, gone, leaves))
+        | inl leaves ↦ not (inr (f.from, (f.«at», touched_site f back within, gone, leaves)))
         | inr is ↦ no_left_bond f (rule.left.linked.both_ways f.from f.«at» (length r.left + f.node) f.site is)
       ]
     where
@@ -237,3 +240,40 @@ module _ (sig : List TypeEntry) (tables : List Table) (ok : AreTables sig tables
       let other_ok : IsRow sig family c.0 = subst (λ (f : Family). IsRow sig f c.0) c.1.of_family (ok.rows c.1.table c.1.among c.0 c.1.has_row) in
       let same = same_row sig yields.pattern (places (length r.left) (length (row_pattern sig family row))) family row c.0 valid row_ok other_ok at_before c.2 in
       subst (λ (x : Row). Holds tables family x) same c.1
+
+pub nothing_new : (r : RuleParts) (family : Family) → ¬ ActsOn r family → YieldsNothingNew r family
+nothing_new r family not sig tables row ok rule has valid yields = Holds-not_acting sig tables ok r rule family has row valid not yields
+
+-- ---- what the code reads
+
+-- a created agent exists
+pub made_within : (r : RuleParts) (k a : ℕ) → made_type r k ≡ Some a → k < length r.made
+unfolding made_type
+made_within r k a e = by (slice_get r.made k) refl e
+  where
+    by : (o : Option MadeAgent) → o ≡ slice_get r.made k → option_map (λ (x : MadeAgent). x.agent) o ≡ Some a → k < length r.made
+    by None at e = absurd cc
+    by (Some x) at e = slice_get_within r.made k x (sym at)
+
+-- the site of a number of a node's list, and its test
+pub site_of_list : (g : List Node) (n : ℕ) (sites : List SiteTests) → ((s : ℕ) → site_at g n s ≡ slice_get sites s) → (s : ℕ) (x : SiteTests) → slice_get sites s ≡ Some x → HasNodeSite g n s × (link_test g n s ≡ x.link)
+unfolding link_test
+site_of_list g n sites all s x e = rw (all s, e) (refl, refl)
+
+pub site_within : (g : List Node) (n : ℕ) (sites : List SiteTests) → ((s : ℕ) → site_at g n s ≡ slice_get sites s) → (s : ℕ) → HasNodeSite g n s → s < length sites
+site_within g n sites all s has = by (slice_get sites s) refl (rw (all s) at has)
+  where
+    by : (o : Option SiteTests) → slice_get sites s ≡ o → IsSome o → s < length sites
+    by None e is = absurd cc
+    by (Some x) e is = slice_get_within sites s x e
+
+module _ (r : RuleParts) (n : ℕ) (sites : List SiteTests) (all : (s : ℕ) → site_at r.left n s ≡ slice_get sites s) (s : ℕ) (x : SiteTests) (at : slice_get sites s ≡ Some x) where
+  pub open_site : (touched r n s ≡ true) × LeavesOpen x.link → TouchesOpenAt r n
+  open_site (touches, leaves) = let site = site_of_list r.left n sites all s x at in (s, site.0, touches, rw site.1 leaves)
+
+  pub no_open_site : ¬ ((touched r n s ≡ true) × LeavesOpen x.link) → touched r n s ≡ true → LeavesOpen (link_test r.left n s) → ⊥
+  no_open_site not touches leaves = let site = site_of_list r.left n sites all s x at in not (touches, rw site.1 at leaves)
+
+pub on_false : (P Q : Type 0) (b : Bool) → IsTrue b ↔ P → (¬ P → Q) → OnFalse b Q
+on_false P Q true tells f = tt
+on_false P Q false tells f = f (λ p. let yes = tells.1 p in absurd cc)

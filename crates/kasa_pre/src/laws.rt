@@ -17,11 +17,12 @@ ghost use Rattle.kasa_families.specs.declared.row.Row.{Row};
 ghost use Rattle.kasa_families.specs.Family.{IsFamily};
 ghost use Rattle.kasa_families.specs.Row.{IsRow};
 ghost use Rattle.kasa_families.specs.Pattern.{Occurs, row_pattern};
-ghost use Rattle.kasa_families.specs.Table.{Table, AreTables, Holds, families_of};
+ghost use Rattle.kasa_families.specs.Table.{Table, AreTables, families_of};
 ghost use Rattle.kasa_pre.specs.declared.Stand.{Stand};
 ghost use Rattle.kasa_pre.specs.declared.FreedBy.{FreedBy};
 ghost use Rattle.kasa_pre.specs.Allowed.{IsAllowed, IsDead};
-ghost use Rattle.kasa_pre.specs.Yields.{ActsOn, Yields, YieldsMostGeneral};
+ghost use Rattle.kasa_pre.specs.Yields.{Yields, YieldsMostGeneral};
+ghost use Rattle.kasa_pre.specs.Acts.{ActsOn, YieldsNothingNew};
 ghost use Rattle.kasa_pre.specs.Closed.{Cover, IsClosed, LemmaHolds};
 ghost use Rattle.kasa_pre.specs.LiesOn.{AllLieOn, AreJustFreed, StoodBefore};
 
@@ -65,5 +66,5 @@ pub fn closed_tables_are_sound()
 
 /// What a rule that doesn't act on a family yields of it stands in the tables.
 pub fn other_rules_yield_nothing_new()
-    ensures { (sig : List TypeEntry) (tables : List Table) (r : RuleParts) (family : Family) (row : Row) → AreTables sig tables → IsRuleOver sig r → Has (families_of tables) family → IsRow sig family row → ¬ ActsOn r family → Yields sig tables r family row → Holds tables family row }
+    ensures { (r : RuleParts) (family : Family) → ¬ ActsOn r family → YieldsNothingNew r family }
 {}

@@ -221,7 +221,7 @@ fn is_freed(freed: &[FreedBy], node: NodeNo, site: SiteNo) -> bool
 }
 
 // A node of a pattern over the signature has the site.
-pub(crate) fn has_site(sig: &Signature, g: &Pattern, node: NodeNo, site: SiteNo) -> bool
+fn has_site(sig: &Signature, g: &Pattern, node: NodeNo, site: SiteNo) -> bool
     requires { IsPatternOver sig.now g.now }
     ensures { IsTrue result ↔ HasNodeSite g.now node site }
 {
@@ -232,20 +232,14 @@ pub(crate) fn has_site(sig: &Signature, g: &Pattern, node: NodeNo, site: SiteNo)
 }
 
 // A type has the site.
-pub(crate) fn type_has_site(sig: &Signature, agent: AgentType, site: SiteNo) -> bool
+fn type_has_site(sig: &Signature, agent: AgentType, site: SiteNo) -> bool
     ensures { IsTrue result ↔ HasSite sig.now agent site }
 {
     (site.0 as usize) < sig.sites(agent)
 }
 
 // A further test of g.
-pub(crate) fn narrow(
-    sig: &Signature,
-    g: &mut Pattern,
-    node: NodeNo,
-    site: SiteNo,
-    test: Test,
-) -> bool
+fn narrow(sig: &Signature, g: &mut Pattern, node: NodeNo, site: SiteNo, test: Test) -> bool
     requires over { IsPatternOver sig.now g.old }
     requires exists { HasNodeSite g.old node site }
     requires known { IsKnownTest sig.now g.old node site test }

@@ -6,11 +6,6 @@ use Rattle.kasa_fixpoint.proofs.StepLemmas.{IsStep-then}
 use Rattle.kasa_fixpoint.proofs.LoopLemmas.{within_tables, settled_next}
 use Rattle.kasa_fixpoint.proofs.rounds.apply.Goals as goal
 
-pub touches_open-anywhere-requires : goal.touches_open-anywhere-requires
-touches_open-anywhere-requires c =
-    let rule = c.requires.rule in
-    record { over = c.model.invariant.0.rules rule.0 c.args.rule.now (rw (← c.model.view_is) at rule.1) }
-
 pub apply_to-requires-clause-over : goal.apply_to-requires-clause-over
 apply_to-requires-clause-over c =
     let rule = c.requires.rule in
