@@ -41,7 +41,7 @@ use Rattle.kasa_columns.proofs.Places.{WasThere, place_list, length-place_list, 
 use Rattle.kasa_columns.proofs.Zips.{all_of, zip_both}
 use Rattle.kasa_columns.proofs.ShapeTests.{columns_apart, agent_of, first_test, free_column, column_typed}
 use Rattle.kasa_columns.proofs.Created.{state_of_made}
-use Rattle.kasa_columns.proofs.Outcomes.{SiteComes, StandComes, OneSource, IsOutcome, comes_out}
+use Rattle.kasa_columns.proofs.ColumnOutcomes.{SiteComes, StandComes, OneSource, IsOutcome, comes_out}
 
 abbrev pub nothing : Local
 nothing = record { state = None; link = local.Free }

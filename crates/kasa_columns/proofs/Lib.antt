@@ -3,7 +3,7 @@ pub mod Places
 pub mod Zips
 pub mod ShapeTests
 pub mod Created
-pub mod Outcomes
+pub mod ColumnOutcomes
 pub mod Forward
 pub mod Rows
 pub mod AnyLocal
@@ -11,3 +11,15 @@ pub mod ViewChoice
 pub mod Choices
 pub mod Along
 pub mod FreedColumns
+pub mod StandSites
+pub mod OutcomeLemmas
+pub mod CollectLemmas
+pub mod Pushing
+pub mod StandLemmas
+pub mod ChoiceLemmas
+pub mod WalkLemmas
+pub mod SeenLemmas
+pub mod ChosenLemmas
+pub mod FoundLemmas
+pub mod Kept
+pub mod Held

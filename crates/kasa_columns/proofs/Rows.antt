@@ -41,6 +41,12 @@ pub reads_columns : (sig : List TypeEntry) (family : Family) → HasColumns fami
 reads_columns sig (Parallel a x u b y w) has = absurd has
 reads_columns sig family has = record { rooted = refl; pattern = λ locals. refl; row = λ locals row. row }
 
+-- each row lists local states
+pub locals_of : (sig : List TypeEntry) (family : Family) → HasColumns family → (row : Row) → IsRow sig family row → (locals : List Local) × (row ≡ Locals locals)
+locals_of sig (Parallel a x u b y w) has row valid = absurd has
+locals_of sig family has (Locals locals) valid = (locals, refl)
+locals_of sig family has row valid = absurd valid
+
 pub compatible_columns : (g : List Node) (family : Family) (place : List ℕ) (row : Row) → HasColumns family → IsCompatible g family place row → (shown : List Local) × (row ≡ Locals shown) × ColumnsAgree g place (shape_of family).columns shown
 compatible_columns g (Parallel a x u b y w) place row has agree = absurd has
 compatible_columns g family place (Locals shown) has agree = (shown, refl, agree)

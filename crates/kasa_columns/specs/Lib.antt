@@ -2,3 +2,10 @@ pub mod Comes
 pub mod Forward
 pub mod Choices
 pub mod Along
+pub mod Outcomes
+pub mod Results
+pub mod Ask
+pub mod Settled
+pub mod Stands
+pub mod Chosen
+pub mod Seen

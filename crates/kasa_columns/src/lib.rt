@@ -1,4 +1,16 @@
-//! Rows of families with columns, forward through a firing.
+//! Rows of families with columns: those that stand in an init, and those that a rule yields, forward through a firing.
 #![tactic(auto)]
 
+mod chosen;
+mod collect;
+mod fired;
 pub mod laws;
+mod seen;
+mod stands;
+mod walk;
+mod written;
+mod yielded;
+
+pub use fired::{Outcome, outcomes};
+pub use seen::initial;
+pub use yielded::{missing, new_results, results};
