@@ -3,6 +3,7 @@ use Rattle.std.proofs.Common.{◌≡◌, ◌≢◌, ℕ, zero, suc, ◌<◌, ◌
 use Rattle.std.specs.Prelude.{Some, slice_get}
 use Rattle.std.specs.List.{AllByRecursion}
 use Rattle.std.specs.Option.{option_map_or}
+use Rattle.std.proofs.lemmas.List.{length-map}
 use Rattle.kasa_graph.specs.Signature.{TypeEntry, sites_of, state_counts, HasSite}
 use Rattle.kasa_graph.specs.Lists.{AllDifferent}
 use Rattle.kasa_graph.proofs.ListLemmas.{AllDifferent-head, AllDifferent-tail}
@@ -123,3 +124,10 @@ some_types (View a sites) = omega arith
 some_types (Across a x p b y q) = omega arith
 some_types (Parallel a x u b y w) = omega arith
 some_types (Chain a x p b y z c w q) = omega arith
+
+-- a valid family has few columns
+pub few_columns : (sig : List TypeEntry) (family : Family) → IsFamily sig family → length (shape_of family).columns ≤ 16
+few_columns sig (View a sites) valid = rw (length-map sites (at 0)) valid.3
+few_columns sig (Across a x p b y q) valid = omega arith
+few_columns sig (Parallel a x u b y w) valid = omega arith
+few_columns sig (Chain a x p b y z c w q) valid = omega arith

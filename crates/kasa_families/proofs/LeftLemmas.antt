@@ -86,11 +86,6 @@ module _ (before g : List Node) (all : List NodeSite) (locals : List Local) (k :
   pub ColumnsLeft-at : (s : NodeSite) (l : Local) → slice_get all k ≡ Some s → slice_get locals k ≡ Some l → ColumnsLeft before (with_local g s.node s.site l) all (drop (k + 1) all) locals (drop (k + 1) locals)
   ColumnsLeft-at s l e f = rw add-one (ColumnsLeft-next before g all (drop (suc k) all) locals (drop (suc k) locals) s l (rw (drop_next all k s e, drop_next locals k l f) at left))
 
-  pub ColumnsLeft-past : slice_get all k ≡ None → ColumnsLeft before g all (drop (k + 1) all) locals (drop (k + 1) locals)
-  ColumnsLeft-past e =
-      let none : ColumnsLeft before g all [] locals (drop k locals) = rw (drop_past all k e k (omega arith)) at left in
-      rw (drop_past all k e (k + 1) (omega arith)) (record { same = none.same; apart = tt; unbound = tt })
-
   pub ColumnsLeft-ended : length locals ≤ k → g ≡ with_columns before all locals
   ColumnsLeft-ended h = sym (no_locals g (drop k all)) ∙ (let ended : ColumnsLeft before g all (drop k all) locals [] = rw (drop_all k locals h) at left in ended.same)
 
@@ -112,12 +107,13 @@ module _ {X Y : Type 0} (P : X → Y → Type 0) (xs : List X) (ys : List Y) (k 
       from = λ all. rw add-one (here_of x.0 x.1 all).1;
     }
 
-    pub PairsLeft-not : (Nth xs k (λ x. P x y) → ⊥) → AllZip P xs ys → ⊥
-    PairsLeft-not not all =
-        let long = AllZip-long P xs ys all in
-        let inside = slice_get_within ys k y on in
-        let x = some_at xs k (omega arith) in
-        not (to_nth xs k (λ x. P x y) x.0 x.1 (here_of x.0 x.1 all).0)
+    -- the same, where the k-th column was read
+    module _ (x : X) (at : slice_get xs k ≡ Some x) where
+      pub PairsLeft-read : P x y → PairsLeft P xs ys (k + 1)
+      PairsLeft-read holds = PairsLeft-at (to_nth xs k (λ x. P x y) x at holds)
+
+      pub PairsLeft-unread : (P x y → ⊥) → AllZip P xs ys → ⊥
+      PairsLeft-unread not all = not (here_of x at all).0
 
   pub PairsLeft-ended : length xs ≤ k → length ys ≤ k → AllZip P xs ys
   PairsLeft-ended few few' = left.to (rw (drop_all k xs few, drop_all k ys few') tt)

@@ -5,7 +5,7 @@ use Rattle.kasa_graph.specs.declared.pattern.Node.{Node}
 use Rattle.kasa_families.specs.declared.row.Row.{Row}
 use Rattle.kasa_families.specs.declared.family.Family.{Family}
 use Rattle.kasa_families.proofs.TableLemmas.{rows_of-some, family_at}
-use Rattle.kasa_families.specs.declared.compatible.Spot.{Spot}
+use Rattle.kasa_families.specs.declared.place.Spot.{Spot}
 use Rattle.kasa_families.specs.Spot.{place_of}
 use Rattle.kasa_families.specs.Compatible.{IsCompatible}
 use Rattle.kasa_families.specs.Table.{Table}

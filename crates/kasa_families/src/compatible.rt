@@ -1,25 +1,19 @@
 // Whether a row can stand where its family's root stands.
-ghost use Rattle.std.specs.Prelude.{◌≡◌, ◌≢◌, ℕ, Some, slice_get, IsTrue, ◌↔◌};
+ghost use Rattle.std.specs.Prelude.{◌≡◌, ◌≢◌, ℕ, [], ◌∷◌, Some, slice_get, IsTrue, ◌↔◌};
+ghost use Rattle.std.specs.Option.{option_map_or, option_to_list};
 ghost use Rattle.kasa_graph.specs.declared.pattern.LinkTest.TheVariants.{To};
-ghost use Rattle.kasa_graph.specs.Lists.{Has};
-ghost use Rattle.kasa_graph.specs.Pattern.{link_test, HasNodeSite, StatesAgree, LinksAgree};
+ghost use Rattle.kasa_graph.specs.Pattern.{agent_at, link_test, HasNodeSite, StatesAgree, LinksAgree};
 ghost use Rattle.kasa_families.specs.Local.{LocalAgrees};
 ghost use Rattle.kasa_families.specs.Shape.{Nth, ColumnsAgree};
-ghost use Rattle.kasa_families.specs.Family.{shape_of};
+ghost use Rattle.kasa_families.specs.Family.{shape_of, family_types};
 ghost use Rattle.kasa_families.specs.Compatible.{CanBeSame, CanBeDifferent, IsCompatible};
-ghost use Rattle.kasa_families.specs.Spot.{led_to, led_from, chain_site, place_of, StandsAt, HasNamedSites};
+ghost use Rattle.kasa_families.specs.declared.shape.Bond.{Bond};
+ghost use Rattle.kasa_families.specs.Spot.{nodes_of, led_to, led_along, root_bonds, place_of, StandsAt, HasNamedSites, AsksMet};
 
 use crate::patterns::{link_test_of, state_test_of};
-use crate::{Family, Local, NodeSite, Row};
+use crate::{Family, Local, NodeSite, Place, Row, Spot};
 use kasa_graph::{LinkTest, Pattern, StateTest, implies};
 use kasa_num::{NodeNo, SiteNo};
-
-/// The nodes of a pattern where the root of a family stands, in the order of the root's nodes.
-#[derive(Clone, Copy, PartialEq, Eq, Debug)]
-pub struct Spot {
-    pub first: NodeNo,
-    pub second: Option<NodeNo>,
-}
 
 /// Whether a row of a family can stand in g where the family's root stands: no test of the row contradicts g's test at
 /// the same site, and for a parallel family the partners that g names can be the same node, or different ones. It takes
@@ -29,30 +23,87 @@ pub fn is_compatible(g: &Pattern, family: &Family, spot: &Spot, row: &Row) -> bo
     requires named { HasNamedSites g.now family.now }
     ensures { IsTrue result ↔ IsCompatible g.now family.now (place_of g.now family.now spot.now) row.now }
 {
+    let place = place_at(g, family, spot);
+    let columns = family.read_columns();
+    fits(g, family, &place, columns.as_slice(), row)
+}
+
+// The same at the place of the root's nodes, over the columns of the family.
+pub(crate) fn fits(
+    g: &Pattern,
+    family: &Family,
+    place: &Place,
+    columns: &[NodeSite],
+    row: &Row,
+) -> bool
+    requires stands { StandsAt g.now family.now (nodes_of place.now) }
+    requires named { HasNamedSites g.now family.now }
+    requires columns { columns.now ≡ (shape_of family.now).columns }
+    ensures { IsTrue result ↔ IsCompatible g.now family.now (nodes_of place.now) row.now }
+{
     match family {
-        Family::Parallel { x, u, y, w, .. } => match row {
-            Row::Locals(_) => false,
-            Row::Same => spot.second.is_none() && can_be_same(g, spot.first, *x, *u, *y, *w),
-            Row::Different => spot.second.is_none() && can_be_different(g, spot.first, *x, *u),
+        Family::Parallel { x, u, y, w, .. } => match *place {
+            Place::One(n) => match row {
+                Row::Locals(_) => false,
+                Row::Same => can_be_same(g, n, *x, *u, *y, *w),
+                Row::Different => can_be_different(g, n, *x, *u),
+            },
+            _ => false,
         },
         _ => match row {
-            Row::Locals(locals) => columns_agree(g, family, spot, locals.as_slice()),
+            Row::Locals(locals) => columns_agree(g, family, place, columns, locals.as_slice()),
             _ => false,
         },
     }
 }
 
-// There is a local state for each column, and none contradicts g there.
-fn columns_agree(g: &Pattern, family: &Family, spot: &Spot, locals: &[Local]) -> bool
+// The nodes of g where the root stands.
+pub(crate) fn place_at(g: &Pattern, family: &Family, spot: &Spot) -> Place
     requires stands { StandsAt g.now family.now (place_of g.now family.now spot.now) }
     requires named { HasNamedSites g.now family.now }
-    ensures { IsTrue result ↔ ColumnsAgree g.now (place_of g.now family.now spot.now) (shape_of family.now).columns locals.now }
+    ensures { nodes_of result ≡ place_of g.now family.now spot.now }
 {
-    if locals.len() != family.columns() {
+    match spot.second {
+        None => Place::One(spot.first),
+        Some(second) => match third(g, family, spot.first, second) {
+            None => Place::Two(spot.first, second),
+            Some(last) => Place::Three(spot.first, second, last),
+        },
+    }
+}
+
+// The node to which the second bond of the root leads, where the first two nodes are known.
+fn third(g: &Pattern, family: &Family, first: NodeNo, second: NodeNo) -> Option<NodeNo>
+    requires { (b : Bond) (p : ℕ) → slice_get (root_bonds family.now) 1 ≡ Some b → slice_get (first ∷ second ∷ []) b.first.node ≡ Some p → HasNodeSite g.now p b.first.site }
+    ensures { option_to_list result ≡ option_map_or (λ b. led_along g.now (first ∷ second ∷ []) b) (slice_get (root_bonds family.now) 1) [] }
+{
+    match family.root_bond(1) {
+        None => None,
+        Some(bond) => match Place::Two(first, second).node(bond.first.node.0 as usize) {
+            None => None,
+            Some(from) => led_to(&g.link(from, bond.first.site)),
+        },
+    }
+}
+
+// There is a local state for each column, and none contradicts g there.
+fn columns_agree(
+    g: &Pattern,
+    family: &Family,
+    place: &Place,
+    columns: &[NodeSite],
+    locals: &[Local],
+) -> bool
+    requires stands { StandsAt g.now family.now (nodes_of place.now) }
+    requires named { HasNamedSites g.now family.now }
+    requires columns { columns.now ≡ (shape_of family.now).columns }
+    ensures { IsTrue result ↔ ColumnsAgree g.now (nodes_of place.now) columns.now locals.now }
+{
+    if locals.len() != columns.len() {
         return false;
     }
     for k in 0..locals.len() {
-        if !agrees_at(g, family, spot, k, locals[k]) {
+        if !column_agrees(g, place, columns[k], locals[k]) {
             return false;
         }
     }
@@ -67,52 +118,40 @@ pub fn agrees_at(g: &Pattern, family: &Family, spot: &Spot, k: usize, local: Loc
 {
     match family.column(k) {
         None => false,
-        Some(at) => column_agrees(g, family, spot, at, local),
+        Some(at) => column_agrees(g, &place_at(g, family, spot), at, local),
     }
 }
 
-fn column_agrees(g: &Pattern, family: &Family, spot: &Spot, at: NodeSite, local: Local) -> bool
-    requires stands { StandsAt g.now family.now (place_of g.now family.now spot.now) }
-    requires named { HasNamedSites g.now family.now }
-    requires column { Has (shape_of family.now).columns at }
-    ensures { IsTrue result ↔ Nth (place_of g.now family.now spot.now) at.node (λ n. LocalAgrees g.now n at.site local) }
+// The local state doesn't contradict g at the column.
+fn column_agrees(g: &Pattern, place: &Place, at: NodeSite, local: Local) -> bool
+    requires { (n : ℕ) → slice_get (nodes_of place.now) at.node ≡ Some n → HasNodeSite g.now n at.site }
+    ensures { IsTrue result ↔ Nth (nodes_of place.now) at.node (λ n. LocalAgrees g.now n at.site local) }
 {
-    match node_at(g, family, spot, at.node) {
+    match place.node(at.node.0 as usize) {
         None => false,
         Some(node) => local_agrees(g, node, at.site, local),
     }
 }
 
-// The node of g where a node of the root stands.
-fn node_at(g: &Pattern, family: &Family, spot: &Spot, n: NodeNo) -> Option<NodeNo>
-    requires stands { StandsAt g.now family.now (place_of g.now family.now spot.now) }
+/// Whether g's tests at a node imply what the root of a family asks there of partners that aren't nodes of it: of both
+/// partners for a parallel family, of none for the others. It takes no memory.
+pub fn asks_are_met(g: &Pattern, family: &Family, node: NodeNo) -> bool
+    requires rooted { (a : ℕ) × (agent_at g.now node ≡ Some a) × (slice_get (family_types family.now) 0 ≡ Some a) }
     requires named { HasNamedSites g.now family.now }
-    ensures { result ≡ slice_get (place_of g.now family.now spot.now) n }
-{
-    match n.0 {
-        0 => Some(spot.first),
-        1 => spot.second,
-        2 => third(g, family, spot.second),
-        _ => None,
-    }
-}
-
-// The third node of a chain.
-fn third(g: &Pattern, family: &Family, second: Option<NodeNo>) -> Option<NodeNo>
-    requires { (m z : ℕ) → second ≡ Some m → chain_site family.now ≡ Some z → HasNodeSite g.now m z }
-    ensures { result ≡ slice_get (led_from g.now second (chain_site family.now)) 0 }
+    ensures { IsTrue result ↔ AsksMet g.now family.now node }
 {
     match family {
-        Family::Chain { z, .. } => match second {
-            None => None,
-            Some(m) => led_to(&g.link(m, *z)),
-        },
-        _ => None,
+        Family::Parallel { x, u, b, y, w, .. } => {
+            implies(g, g.link(node, *x), LinkTest::Partner(*b, *y))
+                && implies(g, g.link(node, *u), LinkTest::Partner(*b, *w))
+        }
+        _ => true,
     }
 }
 
+// The node to which a test leads, if it leads to one.
 fn led_to(link: &LinkTest) -> Option<NodeNo>
-    ensures { result ≡ slice_get (led_to link.now) 0 }
+    ensures { option_to_list result ≡ led_to link.now }
 {
     match *link {
         LinkTest::To(m, _) => Some(m),

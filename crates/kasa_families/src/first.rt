@@ -6,7 +6,8 @@ ghost use Rattle.kasa_families.specs.Spot.{place_of, StandsAt, HasNamedSites};
 ghost use Rattle.kasa_families.specs.Compatible.{IsCompatible};
 ghost use Rattle.kasa_families.specs.First.{IsLeastFrom};
 
-use crate::{Family, Row, Spot, is_compatible};
+use crate::compatible::{fits, place_at};
+use crate::{Family, Row, Spot};
 use kasa_graph::Pattern;
 use kasa_num::AgentType;
 
@@ -35,8 +36,10 @@ pub fn first_among(
     requires named { HasNamedSites g.now family.now }
     ensures { IsLeastFrom (λ k. (row : Row) × (slice_get rows.now k ≡ Some row) × IsCompatible g.now family.now (place_of g.now family.now spot.now) row) from result }
 {
+    let place = place_at(g, family, spot);
+    let columns = family.read_columns();
     for k in from..rows.len() {
-        if is_compatible(g, family, spot, &rows[k]) {
+        if fits(g, family, &place, columns.as_slice(), &rows[k]) {
             return Some(k);
         }
     }

@@ -73,7 +73,8 @@ fn refined(alloc: Global, sig: &Signature, family: &Family, row: &Row) -> Result
     match row {
         Row::Locals(locals) => {
             let mut g = shape_root(alloc, sig, family)?;
-            put_columns(&mut g, family, locals.as_slice());
+            let columns = family.read_columns();
+            put_columns(&mut g, columns.as_slice(), locals.as_slice());
             Ok(g)
         }
         Row::Same => shape_root(alloc, sig, family),
@@ -112,16 +113,15 @@ fn put_bonds(g: &mut Pattern, family: &Family)
     }
 }
 
-// A local state at each column of the family.
-fn put_columns(g: &mut Pattern, family: &Family, locals: &[Local])
-    requires apart { AreApart (shape_of family.now).columns }
-    requires unbound { AllByRecursion (IsOpen g.old) (shape_of family.now).columns }
-    ensures { g.new ≡ with_columns g.old (shape_of family.now).columns locals.now }
+// A local state at each column.
+fn put_columns(g: &mut Pattern, columns: &[NodeSite], locals: &[Local])
+    requires apart { AreApart columns.now }
+    requires unbound { AllByRecursion (IsOpen g.old) columns.now }
+    requires many { length locals.now ≤ length columns.now }
+    ensures { g.new ≡ with_columns g.old columns.now locals.now }
 {
     for k in 0..locals.len() {
-        if let Some(column) = family.column(k) {
-            put_local(g, column, locals[k]);
-        }
+        put_local(g, columns[k], locals[k]);
     }
 }
 

@@ -1,10 +1,15 @@
 // Shapes: what families with columns have in common, a root of nodes and bonds, and the columns of its rows.
-ghost use Rattle.std.specs.Prelude.{◌≡◌, length, slice_get, option_map};
+ghost use Rattle.std.specs.Prelude.{◌≡◌, ◌<◌, ◌≤◌, Some, length, slice_get, option_map};
 ghost use Rattle.kasa_families.specs.Shape.{at, bond};
 ghost use Rattle.kasa_families.specs.Family.{shape_of};
+ghost use Rattle.kasa_families.specs.Spot.{root_bonds};
 
 use crate::Family;
 use kasa_num::{AgentType, NodeNo, SiteNo};
+use std::marker::Model;
+
+/// The most columns of a family.
+const MOST_COLUMNS: usize = 16;
 
 /// A site of a node of a root.
 #[derive(Clone, Copy, Debug, Default, PartialEq, Eq)]
@@ -18,6 +23,32 @@ pub struct NodeSite {
 pub struct Bond {
     pub first: NodeSite,
     pub second: NodeSite,
+}
+
+/// The columns of a family side by side, so that each is read without a look at the family's kind.
+#[derive(Drop)]
+pub(crate) struct Columns {
+    sites: [NodeSite; MOST_COLUMNS],
+    count: usize,
+}
+
+impl Model for Columns {
+    ghost use Rattle.std.specs.Prelude.{List, ◌≤◌, take};
+    ghost use Rattle.kasa_families.specs.declared.shape.NodeSite.{NodeSite};
+
+    ghost Value = { List NodeSite };
+
+    ghost view = { λ c. take c.count c.sites };
+
+    ghost invariant = { λ c. c.count ≤ 16 };
+}
+
+impl Columns {
+    pub(crate) fn as_slice(&self) -> &[NodeSite]
+        ensures { result.now ≡ self.now }
+    {
+        &self.sites[..self.count]
+    }
 }
 
 impl Family {
@@ -96,6 +127,27 @@ impl Family {
         }
     }
 
+    /// How many bonds there are between nodes of the family's root; a parallel family's root is one node. It takes no
+    /// memory.
+    pub fn root_bonds(&self) -> usize
+        ensures { result ≡ length (root_bonds self.now) }
+    {
+        match self {
+            Family::Parallel { .. } => 0,
+            _ => self.bonds(),
+        }
+    }
+
+    /// A bond between nodes of the family's root, by number. It takes no memory.
+    pub fn root_bond(&self, k: usize) -> Option<Bond>
+        ensures { result ≡ slice_get (root_bonds self.now) k }
+    {
+        match self {
+            Family::Parallel { .. } => None,
+            _ => self.bond(k),
+        }
+    }
+
     /// How many columns it has. It takes no memory.
     pub fn columns(&self) -> usize
         ensures { result ≡ length (shape_of self.now).columns }
@@ -105,6 +157,30 @@ impl Family {
             Family::Across { .. } => 2,
             Family::Parallel { .. } => 0,
             Family::Chain { .. } => 2,
+        }
+    }
+
+    // All columns, read once.
+    pub(crate) fn read_columns(&self) -> Columns
+        requires { length (shape_of self.now).columns ≤ 16 }
+        ensures { result ≡ (shape_of self.now).columns }
+    {
+        let mut sites = [NodeSite::default(); MOST_COLUMNS];
+        let count = self.columns();
+        for k in 0..count {
+            sites[k] = self.column_at(k);
+        }
+        Columns { sites, count }
+    }
+
+    // A column that there is.
+    fn column_at(&self, k: usize) -> NodeSite
+        requires { k < length (shape_of self.now).columns }
+        ensures { slice_get (shape_of self.now).columns k ≡ Some result }
+    {
+        match self.column(k) {
+            Some(site) => site,
+            None => NodeSite::default(),
         }
     }
 

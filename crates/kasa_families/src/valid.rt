@@ -117,29 +117,23 @@ fn has_site(sig: &Signature, agent: AgentType, site: SiteNo) -> bool
 
 // There is a local state for each column, and each is valid.
 fn are_columns(sig: &Signature, family: &Family, locals: &[Local]) -> bool
+    requires { length locals.now ≤ 16 }
     ensures { IsTrue result ↔ AreColumns sig.now (shape_of family.now).types (shape_of family.now).columns locals.now }
 {
     if locals.len() != family.columns() {
         return false;
     }
+    let columns = family.read_columns();
+    let columns = columns.as_slice();
     for k in 0..locals.len() {
-        if !is_local_at(sig, family, k, locals[k]) {
+        if !is_local_of(sig, family, columns[k], locals[k]) {
             return false;
         }
     }
     true
 }
 
-// There is such a column, and the local state is valid there.
-fn is_local_at(sig: &Signature, family: &Family, k: usize, local: Local) -> bool
-    ensures { IsTrue result ↔ Nth (shape_of family.now).columns k (λ s. Nth (shape_of family.now).types s.node (λ a. IsLocal sig.now a s.site local)) }
-{
-    match family.column(k) {
-        None => false,
-        Some(at) => is_local_of(sig, family, at, local),
-    }
-}
-
+// The local state is valid at the column.
 fn is_local_of(sig: &Signature, family: &Family, at: NodeSite, local: Local) -> bool
     ensures { IsTrue result ↔ Nth (shape_of family.now).types at.node (λ a. IsLocal sig.now a at.site local) }
 {

@@ -10,7 +10,7 @@ use Rattle.kasa_families.proofs.TableLemmas.{table_of}
 use Rattle.kasa_families.specs.declared.family.Family.{Family}
 use Rattle.kasa_families.specs.declared.family.Family.TheVariants.{Parallel}
 use Rattle.kasa_families.proofs.FamilyShape.{some_types}
-use Rattle.kasa_families.specs.declared.compatible.Spot.{Spot}
+use Rattle.kasa_families.specs.declared.place.Spot.{Spot}
 use Rattle.kasa_families.specs.Family.{root}
 use Rattle.kasa_families.specs.Spot.{place_of}
 use Rattle.kasa_families.specs.Table.{Table, AreTables, families_of, rows_of}

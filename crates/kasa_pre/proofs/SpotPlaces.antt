@@ -1,14 +1,15 @@
 -- The places of a root that begin with a given node: a shape's bonds lead from node to node.
-use Rattle.std.proofs.Common.{◌≡◌, ◌≢◌, ℕ, zero, suc, ◌<◌, ◌⊎◌, inl, inr, List, [], ◌∷◌, refl, sym, ap, ◌∙◌, length, arith}
-use Rattle.std.specs.Prelude.{Some, slice_get}
+use Rattle.std.proofs.Common.{◌≡◌, ◌≢◌, ℕ, zero, suc, ◌+◌, ◌<◌, ◌≤◌, ◌⊎◌, inl, inr, List, [], ◌∷◌, ◌++◌, refl, sym, ap, subst, ◌∙◌, length, length-append, arith}
+use Rattle.std.specs.Prelude.{Option, Some, slice_get}
 use Rattle.std.specs.List.{AllByRecursion, AllZip}
 use Rattle.std.proofs.lemmas.Option.{same_Some, slice_get_within}
+use Rattle.kasa_graph.specs.declared.pattern.LinkTest.{LinkTest}
 use Rattle.kasa_graph.specs.declared.pattern.LinkTest.TheVariants.{Partner, To}
 use Rattle.kasa_graph.specs.declared.pattern.Node.{Node}
 use Rattle.kasa_graph.specs.Signature.{TypeEntry, HasSite}
 use Rattle.kasa_graph.specs.Lists.{Has, AllDifferent}
-use Rattle.kasa_graph.specs.Pattern.{agent_at, link_test, LinkImplies, IsPatternOver}
-use Rattle.kasa_graph.proofs.ListLemmas.{some_at, AllDifferent-cons}
+use Rattle.kasa_graph.specs.Pattern.{agent_at, link_test, HasNodeSite, LinkImplies, IsPatternOver}
+use Rattle.kasa_graph.proofs.ListLemmas.{some_at, below_or, slice_get-append_left, slice_get-append_right}
 use Rattle.kasa_graph.proofs.PatternLemmas.{same_site_or_not}
 use Rattle.kasa_graph.proofs.TestLemmas.{agent_at-types}
 use Rattle.kasa_graph.proofs.SiteLemmas.{HasNodeSite-over}
@@ -16,37 +17,35 @@ use Rattle.kasa_families.specs.declared.family.Family.{Family}
 use Rattle.kasa_families.specs.declared.family.Family.TheVariants.{View, Across, Parallel, Chain}
 use Rattle.kasa_families.specs.declared.shape.NodeSite.{NodeSite}
 use Rattle.kasa_families.specs.declared.shape.Bond.{Bond}
-use Rattle.kasa_families.specs.Shape.{Shape, IsShape, named, ends, root_of, at as site_of}
+use Rattle.kasa_families.specs.Shape.{Shape, IsShape, Nth, named, ends, bond, root_of, at as site_of}
 use Rattle.kasa_families.specs.Family.{IsFamily, shape_of, root, family_types}
-use Rattle.kasa_families.specs.Spot.{NamesSite, HasNamedSites}
+use Rattle.kasa_families.specs.declared.place.Spot.{Spot}
+use Rattle.kasa_families.specs.declared.place.Place.{Place}
+use Rattle.kasa_families.specs.declared.place.Place.TheVariants.{One, Two, Three}
+use Rattle.kasa_families.specs.Spot.{nodes_of, led_to, root_bonds, place_of, AsksMet, NamesSite, HasNamedSites}
 use Rattle.kasa_families.proofs.ColumnLemmas.{nth_of, All-at, All-left, one_or_apart, end_of, first_end, second_end, TestsBond, types_of-root}
 use Rattle.kasa_families.proofs.FamilyShape.{IsShape-of, some_types}
 use Rattle.kasa_families.proofs.RowPattern.{root_types, types_of-family_root, length_of, typed_of, state_test-root_of, link_test-root_of, TestsBond-root_of, link_test-parallel_root_first, link_test-parallel_root_second, link_test-parallel_root_other}
 use Rattle.kasa_pre.specs.Place.{ImpliesAt, IsPlace}
-use Rattle.kasa_pre.specs.Spots.{StandsFrom}
+use Rattle.kasa_pre.specs.Spots.{StandsFrom, Leads, AreTyped, IsOnlySpot}
 use Rattle.kasa_pre.proofs.CoverLemmas.{length-root}
 use Rattle.kasa_pre.proofs.RowPlace.{state_test-root}
 
--- ---- lists of one and of two nodes
+-- ---- lists of nodes
 
 pub AllDifferent-one : (n : ℕ) → AllDifferent (n ∷ [])
 AllDifferent-one n zero zero y e f = refl
 AllDifferent-one n zero (suc j) y e f = absurd cc
 AllDifferent-one n (suc i) j y e f = absurd cc
 
-pub AllDifferent-two : (n m : ℕ) → m ≢ n → AllDifferent (n ∷ m ∷ [])
-AllDifferent-two n m ne zero zero y e f = refl
-AllDifferent-two n m ne zero (suc zero) y e f = absurd (ne cc)
-AllDifferent-two n m ne (suc zero) zero y e f = absurd (ne cc)
-AllDifferent-two n m ne (suc zero) (suc zero) y e f = refl
-AllDifferent-two n m ne zero (suc (suc j)) y e f = absurd cc
-AllDifferent-two n m ne (suc zero) (suc (suc j)) y e f = absurd cc
-AllDifferent-two n m ne (suc (suc i)) j y e f = absurd cc
-
 one_of : (place : List ℕ) (n : ℕ) → length place ≡ 1 → slice_get place 0 ≡ Some n → place ≡ n ∷ []
 one_of [] n count first = absurd cc
 one_of (p ∷ []) n count first = let same : p ≡ n = cc in rw same
 one_of (p ∷ q ∷ place) n count first = absurd (omega arith)
+
+-- an element by another name of its number
+at_number : (xs : List ℕ) (i j x : ℕ) → i ≡ j → slice_get xs j ≡ Some x → slice_get xs i ≡ Some x
+at_number xs i j x e h = rw e h
 
 -- two lists with the same elements by number
 same_elements : (xs ys : List ℕ) → length xs ≡ length ys → ((k x y : ℕ) → slice_get xs k ≡ Some x → slice_get ys k ≡ Some y → x ≡ y) → xs ≡ ys
@@ -148,46 +147,12 @@ module _ (sig : List TypeEntry) (g : List Node) (over : IsPatternOver sig g) (sh
         by_bond bonds tests.1,
       )
 
-  -- there is at most one such place
-  pub Follows-one : (place other : List ℕ) → Follows g shape n place → Follows g shape n other → place ≡ other
-  Follows-one place other f h = same_elements place other (f.count ∙ sym h.count) (λ k. up_to (suc k) k (omega arith))
-    where
-      up_to : (most k : ℕ) → k < most → (p q : ℕ) → slice_get place k ≡ Some p → slice_get other k ≡ Some q → p ≡ q
-      up_to zero k low p q e e' = absurd (omega arith)
-      up_to (suc most) zero low p q e e' = same_Some p q (sym e ∙ f.first ∙ sym h.first ∙ e')
-      up_to (suc most) (suc k) low p q e e' =
-          let inside = slice_get_within place (suc k) p e in
-          let count = f.count in
-          let b = ok.joined k (omega arith) in
-          let i = placed place f.count b.0.first (first_end shape.bonds b.1.0 b.0 b.1.1) in
-          let j = placed other h.count b.0.first (first_end shape.bonds b.1.0 b.0 b.1.1) in
-          let earlier : i.0 ≡ j.0 = up_to most b.0.first.node (let before = b.3 in omega arith) i.0 j.0 i.1 j.1 in
-          let one = All-at (IsBondAt g place) shape.bonds b.1.0 b.0 f.bonds b.1.1 i.0 p i.1 (rw b.2 e) in
-          let two = All-at (IsBondAt g other) shape.bonds b.1.0 b.0 h.bonds b.1.1 j.0 q j.1 (rw b.2 e') in
-          let same : To p b.0.second.site ≡ To q b.0.second.site = sym one ∙ ap (λ (x : ℕ). link_test g x b.0.first.site) earlier ∙ two in
-          cc
-
--- ---- families with one, two and three nodes
-
--- where a shape's bonds are followed, the family stands at this place alone
-pub spot-follows : (sig : List TypeEntry) (family : Family) → IsFamily sig family → root sig family ≡ root_of sig (shape_of family) → (g : List Node) → IsPatternOver sig g → (n : ℕ) (place : List ℕ) → Follows g (shape_of family) n place → StandsFrom sig family g n place × ((other : List ℕ) → StandsFrom sig family g n other → other ≡ place)
-spot-follows sig family valid is g over n place f =
-    let ok = IsShape-of sig family valid in (
-      record { stands = rw is (IsPlace-follows sig g over (shape_of family) ok n place f); first = f.first },
-      λ other at. Follows-one sig g over (shape_of family) ok n other place (Follows-place sig g over (shape_of family) ok n other (rw is at at.stands) at.first) f,
-    )
-
+-- a view's root is one node
 zip_at : {X Y : Type 0} (R : X → Y → Type 0) (xs : List X) (ys : List Y) → AllZip R xs ys → (k : ℕ) (x : X) (y : Y) → slice_get xs k ≡ Some x → slice_get ys k ≡ Some y → R x y
 zip_at R [] ys all k x y e f = absurd cc
 zip_at R (x' ∷ xs) [] all k x y e f = absurd cc
 zip_at R (x' ∷ xs) (y' ∷ ys) all zero x y e f = let one : x' ≡ x = cc in let two : y' ≡ y = cc in rw (one, two) at all.0
 zip_at R (x' ∷ xs) (y' ∷ ys) all (suc k) x y e f = zip_at R xs ys all.1 k x y e f
-
-out_of : (n : ℕ) (others : List ℕ) → AllByRecursion (λ m. m ≢ n) others → (i : ℕ) → slice_get others i ≢ Some n
-out_of n others all i e = All-at (λ m. m ≢ n) others i n all e refl
-
-bond_at : (g : List Node) (n m s t : ℕ) → link_test g n s ≡ To m t → (p q : ℕ) → Some n ≡ Some p → Some m ≡ Some q → link_test g p s ≡ To q t
-bond_at g n m s t h p q e f = rw (← same_Some n p e, ← same_Some m q f) h
 
 module _ (g : List Node) (n : ℕ) where
   pub Follows-view : (a : ℕ) (sites : List ℕ) → agent_at g n ≡ Some a → Follows g (shape_of (View a sites)) n (n ∷ [])
@@ -199,44 +164,180 @@ module _ (g : List Node) (n : ℕ) where
     bonds = tt;
   }
 
-  pub Follows-across : (a x p b y q m : ℕ) → agent_at g n ≡ Some a → (link_test g n x ≡ To m y) × (agent_at g m ≡ Some b) × (m ≢ n) → Follows g (shape_of (Across a x p b y q)) n (n ∷ m ∷ [])
-  Follows-across a x p b y q m typed h = record {
+-- ---- along the bonds of a root, from node to node
+
+-- different nodes of the types, from n on, one more than the first k bonds, which g has between them
+pub record Along (g : List Node) (types : List ℕ) (bonds : List Bond) (n k : ℕ) (place : List ℕ) : Type 0 where
+  pub count : length place ≡ suc k
+  pub first : slice_get place 0 ≡ Some n
+  pub different : AllDifferent place
+  pub typed : (i p a : ℕ) → slice_get place i ≡ Some p → slice_get types i ≡ Some a → agent_at g p ≡ Some a
+  pub bonded : (i : ℕ) (b : Bond) → i < k → slice_get bonds i ≡ Some b → IsBondAt g place b
+
+-- each bond leads from an earlier node to the next one
+pub record InOrder (types : List ℕ) (bonds : List Bond) : Type 0 where
+  pub many : length bonds < length types
+  pub next : (k : ℕ) (b : Bond) → slice_get bonds k ≡ Some b → (b.first.node ≤ k) × (b.second.node ≡ suc k)
+
+module _ (g : List Node) (types : List ℕ) (bonds : List Bond) (order : InOrder types bonds) (n : ℕ) where
+  pub Along-first : (a : ℕ) → agent_at g n ≡ Some a → slice_get types 0 ≡ Some a → Along g types bonds n 0 (n ∷ [])
+  Along-first a typed is = record {
     count = refl;
     first = refl;
-    different = AllDifferent-cons n (m ∷ []) (out_of n (m ∷ []) (h.2, tt)) (AllDifferent-one m);
-    types = zip_at (λ p a. agent_at g p ≡ Some a) (n ∷ m ∷ []) (a ∷ b ∷ []) (typed, (h.1, tt));
-    bonds = (bond_at g n m x y h.0, tt);
+    different = AllDifferent-one n;
+    typed = types_of_one;
+    bonded = λ i b low. absurd (omega arith);
+  }
+    where
+      types_of_one : (i p c : ℕ) → slice_get (n ∷ []) i ≡ Some p → slice_get types i ≡ Some c → agent_at g p ≡ Some c
+      types_of_one zero p c e f = let same : n ≡ p = cc in rw (← same) (typed ∙ sym is ∙ f)
+      types_of_one (suc i) p c e f = absurd cc
+
+  -- a part of a place agrees with a whole place
+  module _ (k : ℕ) (place : List ℕ) (f : Along g types bonds n k place) (other : List ℕ) (h : Along g types bonds n (length bonds) other) (low : k ≤ length bonds) where
+    pub agree : (most i : ℕ) → i < most → (p q : ℕ) → slice_get place i ≡ Some p → slice_get other i ≡ Some q → p ≡ q
+    agree zero i below p q e e' = absurd (omega arith)
+    agree (suc most) zero below p q e e' = same_Some p q (sym e ∙ f.first ∙ sym h.first ∙ e')
+    agree (suc most) (suc i) below p q e e' =
+        let inside = slice_get_within place (suc i) p e in
+        let count = f.count in
+        let count' = h.count in
+        let b = some_at bonds i (omega arith) in
+        let next = order.next i b.0 b.1 in
+        let from = some_at place b.0.first.node (let early = next.0 in omega arith) in
+        let from' = some_at other b.0.first.node (let early = next.0 in omega arith) in
+        let earlier : from.0 ≡ from'.0 = agree most b.0.first.node (let early = next.0 in omega arith) from.0 from'.0 from.1 from'.1 in
+        let one = f.bonded i b.0 (omega arith) b.1 from.0 p from.1 (rw next.1 e) in
+        let two = h.bonded i b.0 (omega arith) b.1 from'.0 q from'.1 (rw next.1 e') in
+        let same : To p b.0.second.site ≡ To q b.0.second.site = sym one ∙ ap (λ (x : ℕ). link_test g x b.0.first.site) earlier ∙ two in
+        cc
+
+    -- where the next bond leads nowhere, there is no whole place
+    pub Along-not : (b : Bond) → slice_get bonds k ≡ Some b → ((m : ℕ) → ¬ Leads g types place b m) → ⊥
+    Along-not b is not =
+        let next = order.next k b is in
+        let inside = slice_get_within bonds k b is in
+        let many = order.many in
+        let count = f.count in
+        let count' = h.count in
+        let from = some_at place b.first.node (let early = next.0 in omega arith) in
+        let from' = some_at other b.first.node (let early = next.0 in omega arith) in
+        let earlier : from.0 ≡ from'.0 = agree (suc k) b.first.node (let early = next.0 in omega arith) from.0 from'.0 from.1 from'.1 in
+        let m = some_at other (suc k) (omega arith) in
+        let a = some_at types (suc k) (omega arith) in
+        let bond = h.bonded k b (omega arith) is from'.0 m.0 from'.1 (at_number other b.second.node (suc k) m.0 next.1 m.1) in
+        not m.0 (record {
+          from = from.0;
+          placed = from.1;
+          link = ap (λ (x : ℕ). link_test g x b.first.site) earlier ∙ bond;
+          agent = a.0;
+          typed = at_number types b.second.node (suc k) a.0 next.1 a.1;
+          is = h.typed (suc k) m.0 a.0 m.1 a.1;
+          new = λ has. let within = slice_get_within place has.0 m.0 has.1 in let there = some_at other has.0 (omega arith) in let same : m.0 ≡ there.0 = agree (suc k) has.0 (omega arith) m.0 there.0 has.1 there.1 in let number = h.different has.0 (suc k) m.0 (there.1 ∙ ap Some (sym same)) m.1 in absurd (omega arith);
+        })
+
+  -- a further node, where g leads along the next bond
+  module _ (k : ℕ) (place : List ℕ) (f : Along g types bonds n k place) (b : Bond) (is : slice_get bonds k ≡ Some b) (m : ℕ) (leads : Leads g types place b m) where
+    old_or_new : (i p : ℕ) → slice_get (place ++ m ∷ []) i ≡ Some p → ((i < suc k) × (slice_get place i ≡ Some p)) ⊎ ((i ≡ suc k) × (m ≡ p))
+    old_or_new i p e = by (below_or i (suc k))
+      where
+        by : (i < suc k) ⊎ ((j : ℕ) × (suc k + j ≡ i)) → ((i < suc k) × (slice_get place i ≡ Some p)) ⊎ ((i ≡ suc k) × (m ≡ p))
+        by (inl low) = inl (low, sym (slice_get-append_left place (m ∷ []) i (let count = f.count in omega arith)) ∙ e)
+        by (inr (zero, at)) = inr (omega arith, let here : slice_get (m ∷ []) 0 ≡ Some p = sym (slice_get-append_right place (m ∷ []) 0 i (let count = f.count in omega arith)) ∙ e in cc)
+        by (inr (suc j, at)) = absurd (let past : slice_get (m ∷ []) (suc j) ≡ Some p = sym (slice_get-append_right place (m ∷ []) (suc j) i (let count = f.count in omega arith)) ∙ e in cc)
+
+    pub Along-next : Along g types bonds n (suc k) (place ++ m ∷ [])
+    Along-next = record {
+      count = let long = length-append place (m ∷ []) in let count = f.count in omega arith;
+      first = slice_get-append_left place (m ∷ []) 0 (let count = f.count in omega arith) ∙ f.first;
+      different = different;
+      typed = λ i p a e type. elim (old_or_new i p e) [
+        | inl old ↦ f.typed i p a old.1 type
+        | inr new ↦
+            let next = order.next k b is in
+            let same : leads.agent ≡ a = same_Some leads.agent a (sym leads.typed ∙ (rw (next.1, ← new.0) type)) in
+            rw (← new.1, ← same) leads.is
+      ];
+      bonded = λ i b' low at p q e e'.
+          let next = order.next i b' at in
+          elim (old_or_new b'.first.node p e) [
+            | inl from ↦ elim (old_or_new b'.second.node q e') [
+              | inl to ↦ f.bonded i b' (let last = to.0 in let second = next.1 in omega arith) at p q from.1 to.1
+              | inr new ↦
+                  let number : i ≡ k = let last = new.0 in let second = next.1 in omega arith in
+                  let same : b ≡ b' = let here = rw number at at in cc in
+                  let one : leads.from ≡ p = same_Some leads.from p (sym leads.placed ∙ (rw same from.1)) in
+                  rw (← new.1, ← one, ← same) leads.link
+            ]
+            | inr new ↦ absurd (let early = next.0 in let past = new.0 in omega arith)
+          ];
+    }
+      where
+        different : AllDifferent (place ++ m ∷ [])
+        different i j p e e' = elim (old_or_new i p e) [
+          | inl old ↦ elim (old_or_new j p e') [
+            | inl old' ↦ f.different i j p old.1 old'.1
+            | inr new ↦ absurd (leads.new (i, rw new.1 old.1))
+          ]
+          | inr new ↦ elim (old_or_new j p e') [
+            | inl old' ↦ absurd (leads.new (j, rw new.1 old'.1))
+            | inr new' ↦ new.0 ∙ sym new'.0
+          ]
+        ]
+
+-- ---- the bonds of the roots of all kinds
+
+pub few_root_bonds : (family : Family) → length (root_bonds family) ≤ 2
+few_root_bonds (View a sites) = omega arith
+few_root_bonds (Across a x p b y q) = omega arith
+few_root_bonds (Parallel a x u b y w) = omega arith
+few_root_bonds (Chain a x p b y z c w q) = omega arith
+
+pub InOrder-root : (family : Family) → InOrder (shape_of family).types (root_bonds family)
+InOrder-root (View a sites) = record { many = omega arith; next = λ k b e. absurd cc }
+InOrder-root (Across a x p b y q) = record { many = omega arith; next = steps }
+  where
+    steps : (k : ℕ) (r : Bond) → slice_get (root_bonds (Across a x p b y q)) k ≡ Some r → (r.first.node ≤ k) × (r.second.node ≡ suc k)
+    steps zero r e = let same : bond 0 x 1 y ≡ r = cc in rw (← same) (omega arith, refl)
+    steps (suc k) r e = absurd cc
+InOrder-root (Parallel a x u b y w) = record { many = omega arith; next = λ k b e. absurd cc }
+InOrder-root (Chain a x p b y z c w q) = record { many = omega arith; next = steps }
+  where
+    steps : (k : ℕ) (r : Bond) → slice_get (root_bonds (Chain a x p b y z c w q)) k ≡ Some r → (r.first.node ≤ k) × (r.second.node ≡ suc k)
+    steps zero r e = let same : bond 0 x 1 y ≡ r = cc in rw (← same) (omega arith, refl)
+    steps (suc zero) r e = let same : bond 1 z 2 w ≡ r = cc in rw (← same) (omega arith, refl)
+    steps (suc (suc k)) r e = absurd cc
+
+abbrev pub AlongRoot : List Node → Family → ℕ → ℕ → List ℕ → Type 0
+AlongRoot g family n k place = Along g (shape_of family).types (root_bonds family) n k place
+
+pointwise : (g : List Node) (place : List ℕ) (bonds : List Bond) → ((i : ℕ) (b : Bond) → slice_get bonds i ≡ Some b → IsBondAt g place b) → AllByRecursion (IsBondAt g place) bonds
+pointwise g place [] all = tt
+pointwise g place (b ∷ bonds) all = (all 0 b refl, pointwise g place bonds (λ i. all (suc i)))
+
+module _ (sig : List TypeEntry) (g : List Node) (over : IsPatternOver sig g) (family : Family) (valid : IsFamily sig family) (n : ℕ) where
+  shape_stands : root sig family ≡ root_of sig (shape_of family) → (root_bonds family ≡ (shape_of family).bonds) × (length (shape_of family).types ≡ suc (length (shape_of family).bonds)) → (place : List ℕ) → AlongRoot g family n (length (root_bonds family)) place → StandsFrom sig family g n place
+  shape_stands is (same, count) place f = record {
+    stands = rw is (IsPlace-follows sig g over (shape_of family) (IsShape-of sig family valid) n place (record {
+      count = f.count ∙ ap (λ (bs : List Bond). suc (length bs)) same ∙ sym count;
+      first = f.first;
+      different = f.different;
+      types = f.typed;
+      bonds = pointwise g place (shape_of family).bonds (λ i b at. f.bonded i b (rw same (slice_get_within (shape_of family).bonds i b at)) (rw same at));
+    }));
+    first = f.first;
   }
 
-  pub Follows-chain : (a x p b y z c w q m j : ℕ) → agent_at g n ≡ Some a → (link_test g n x ≡ To m y) × (agent_at g m ≡ Some b) × (m ≢ n) → (link_test g m z ≡ To j w) × (agent_at g j ≡ Some c) × (j ≢ m) → j ≢ n → Follows g (shape_of (Chain a x p b y z c w q)) n (n ∷ m ∷ j ∷ [])
-  Follows-chain a x p b y z c w q m j typed h k ne = record {
-    count = refl;
-    first = refl;
-    different = AllDifferent-cons n (m ∷ j ∷ []) (out_of n (m ∷ j ∷ []) (h.2, (ne, tt))) (AllDifferent-cons m (j ∷ []) (out_of m (j ∷ []) (k.2, tt)) (AllDifferent-one j));
-    types = zip_at (λ p a. agent_at g p ≡ Some a) (n ∷ m ∷ j ∷ []) (a ∷ b ∷ c ∷ []) (typed, (h.1, (k.1, tt)));
-    bonds = (bond_at g n m x y h.0, (bond_at g m j z w k.0, tt));
-  }
-
--- the second and the third node of such a place
-module _ (sig : List TypeEntry) (g : List Node) (over : IsPatternOver sig g) (n : ℕ) (place : List ℕ) where
-  follows : (family : Family) → IsFamily sig family → root sig family ≡ root_of sig (shape_of family) → StandsFrom sig family g n place → Follows g (shape_of family) n place
-  follows family valid is at = Follows-place sig g over (shape_of family) (IsShape-of sig family valid) n place (rw is at at.stands) at.first
-
-  number_ne : (i j k l : ℕ) → AllDifferent place → slice_get place i ≡ Some k → slice_get place j ≡ Some l → i ≢ j → k ≢ l
-  number_ne i j k l different e f ne same = ne (different i j l (e ∙ ap Some same) f)
-
-  pub second-across : (a x p b y q : ℕ) → IsFamily sig (Across a x p b y q) → StandsFrom sig (Across a x p b y q) g n place → (m : ℕ) × (link_test g n x ≡ To m y) × (agent_at g m ≡ Some b) × (m ≢ n)
-  second-across a x p b y q valid at =
-      let f = follows (Across a x p b y q) valid refl at in
-      let m = some_at place 1 (let count = f.count in omega arith) in
-      (m.0, f.bonds.0 n m.0 f.first m.1, f.types 1 m.0 b m.1 refl, number_ne 1 0 m.0 n f.different m.1 f.first (λ e. cc))
-
-  pub outer-chain : (a x p b y z c w q : ℕ) → IsFamily sig (Chain a x p b y z c w q) → StandsFrom sig (Chain a x p b y z c w q) g n place → (m j : ℕ) × (link_test g n x ≡ To m y) × (agent_at g m ≡ Some b) × (m ≢ n) × (link_test g m z ≡ To j w) × (agent_at g j ≡ Some c) × (j ≢ m) × (j ≢ n)
-  outer-chain a x p b y z c w q valid at =
-      let f = follows (Chain a x p b y z c w q) valid refl at in
-      let m = some_at place 1 (let count = f.count in omega arith) in
-      let j = some_at place 2 (let count = f.count in omega arith) in
-      (m.0, j.0, f.bonds.0 n m.0 f.first m.1, f.types 1 m.0 b m.1 refl, number_ne 1 0 m.0 n f.different m.1 f.first (λ e. cc), f.bonds.1.0 m.0 j.0 m.1 j.1, f.types 2 j.0 c j.1 refl, number_ne 2 1 j.0 m.0 f.different j.1 m.1 (λ e. cc), number_ne 2 0 j.0 n f.different j.1 f.first (λ e. cc))
+  shape_along : root sig family ≡ root_of sig (shape_of family) → (root_bonds family ≡ (shape_of family).bonds) × (length (shape_of family).types ≡ suc (length (shape_of family).bonds)) → (place : List ℕ) → StandsFrom sig family g n place → AlongRoot g family n (length (root_bonds family)) place
+  shape_along is (same, count) place at =
+      let f = Follows-place sig g over (shape_of family) (IsShape-of sig family valid) n place (rw is at at.stands) at.first in
+      record {
+        count = f.count ∙ count ∙ ap (λ (bs : List Bond). suc (length bs)) (sym same);
+        first = f.first;
+        different = f.different;
+        typed = f.types;
+        bonded = λ i b low on. All-at (IsBondAt g place) (shape_of family).bonds i b f.bonds (rw same at on);
+      }
 
 -- ---- parallel bonds
 
@@ -269,14 +370,58 @@ module _ (sig : List TypeEntry) (g : List Node) (n a x u b y w : ℕ) (valid : I
           ]
       links (suc k) p s e = absurd cc
 
-  pub spot-parallel : agent_at g n ≡ Some a → LinkImplies g (link_test g n x) (Partner b y) × LinkImplies g (link_test g n u) (Partner b w) → StandsFrom sig (Parallel a x u b y w) g n (n ∷ []) × ((place : List ℕ) → StandsFrom sig (Parallel a x u b y w) g n place → place ≡ n ∷ [])
-  spot-parallel typed both = (StandsFrom-parallel typed both.0 both.1, λ place at. one_of place n (at.stands.count ∙ length-root sig (Parallel a x u b y w)) at.first)
-
   pub partners-parallel : (place : List ℕ) → StandsFrom sig (Parallel a x u b y w) g n place → LinkImplies g (link_test g n x) (Partner b y) × LinkImplies g (link_test g n u) (Partner b w)
   partners-parallel place at = (
     rw (link_test-parallel_root_first sig a x u b y w valid) at (at.stands.links 0 n x at.first),
     rw (link_test-parallel_root_second sig a x u b y w valid) at (at.stands.links 0 n u at.first),
   )
+
+-- ---- the places of a family's root, of whatever kind it is
+
+pub StandsFrom-along : (sig : List TypeEntry) (g : List Node) → IsPatternOver sig g → (family : Family) → IsFamily sig family → (n : ℕ) → AsksMet g family n → (place : List ℕ) → AlongRoot g family n (length (root_bonds family)) place → StandsFrom sig family g n place
+StandsFrom-along sig g over (Parallel a x u b y w) valid n asks place f =
+    let one = one_of place n f.count f.first in
+    rw one (StandsFrom-parallel sig g n a x u b y w valid (f.typed 0 n a f.first refl) asks.0 asks.1)
+StandsFrom-along sig g over (View a sites) valid n asks place f = shape_stands sig g over (View a sites) valid n refl (refl, refl) place f
+StandsFrom-along sig g over (Across a x p b y q) valid n asks place f = shape_stands sig g over (Across a x p b y q) valid n refl (refl, refl) place f
+StandsFrom-along sig g over (Chain a x p b y z c w q) valid n asks place f = shape_stands sig g over (Chain a x p b y z c w q) valid n refl (refl, refl) place f
+
+pub Along-stands : (sig : List TypeEntry) (g : List Node) → IsPatternOver sig g → (family : Family) → IsFamily sig family → (n a : ℕ) → agent_at g n ≡ Some a → slice_get (family_types family) 0 ≡ Some a → (place : List ℕ) → StandsFrom sig family g n place → AsksMet g family n × AlongRoot g family n (length (root_bonds family)) place
+Along-stands sig g over (Parallel a x u b y w) valid n c typed is place at =
+    let one = one_of place n (at.stands.count ∙ length-root sig (Parallel a x u b y w)) at.first in
+    (partners-parallel sig g n a x u b y w valid place at, rw one (Along-first g (a ∷ b ∷ []) [] (InOrder-root (Parallel a x u b y w)) n c typed is))
+Along-stands sig g over (View a sites) valid n c typed is place at = (tt, shape_along sig g over (View a sites) valid n refl (refl, refl) place at)
+Along-stands sig g over (Across a x p b y q) valid n c typed is place at = (tt, shape_along sig g over (Across a x p b y q) valid n refl (refl, refl) place at)
+Along-stands sig g over (Chain a x p b y z c' w q) valid n c typed is place at = (tt, shape_along sig g over (Chain a x p b y z c' w q) valid n refl (refl, refl) place at)
+
+-- the first two nodes of a whole place lead to all of it
+pub spot_read : (g : List Node) (family : Family) (n : ℕ) (place : Place) (first : ℕ) (second : Option ℕ) → AlongRoot g family n (length (root_bonds family)) (nodes_of place) → slice_get (nodes_of place) 0 ≡ Some first → second ≡ slice_get (nodes_of place) 1 → place_of g family (record { first = first; second = second }) ≡ nodes_of place
+spot_read g (View a sites) n (One i) first second f e e' = let same : i ≡ first = cc in rw (e', same) refl
+spot_read g (View a sites) n (Two i j) first second f e e' = absurd (let count = f.count in omega arith)
+spot_read g (View a sites) n (Three i j k) first second f e e' = absurd (let count = f.count in omega arith)
+spot_read g (Parallel a x u b y w) n (One i) first second f e e' = let same : i ≡ first = cc in rw (e', same) refl
+spot_read g (Parallel a x u b y w) n (Two i j) first second f e e' = absurd (let count = f.count in omega arith)
+spot_read g (Parallel a x u b y w) n (Three i j k) first second f e e' = absurd (let count = f.count in omega arith)
+spot_read g (Across a x p b y q) n (One i) first second f e e' = absurd (let count = f.count in omega arith)
+spot_read g (Across a x p b y q) n (Two i j) first second f e e' = let same : i ≡ first = cc in rw (e', same) refl
+spot_read g (Across a x p b y q) n (Three i j k) first second f e e' = absurd (let count = f.count in omega arith)
+spot_read g (Chain a x p b y z c w q) n (One i) first second f e e' = absurd (let count = f.count in omega arith)
+spot_read g (Chain a x p b y z c w q) n (Two i j) first second f e e' = absurd (let count = f.count in omega arith)
+spot_read g (Chain a x p b y z c w q) n (Three i j k) first second f e e' =
+    let same : i ≡ first = cc in
+    let last : link_test g j z ≡ To k w = f.bonded 1 (bond 1 z 2 w) (omega arith) refl j k refl refl in
+    rw (e', same) (ap (λ (t : LinkTest). first ∷ j ∷ led_to t) last)
+
+-- it is the only place
+pub IsOnlySpot-along : (sig : List TypeEntry) (g : List Node) → IsPatternOver sig g → (family : Family) → IsFamily sig family → (n a : ℕ) → agent_at g n ≡ Some a → slice_get (family_types family) 0 ≡ Some a → AsksMet g family n → (place : Place) (spot : Spot) → AlongRoot g family n (length (root_bonds family)) (nodes_of place) → slice_get (nodes_of place) 0 ≡ Some spot.first → spot.second ≡ slice_get (nodes_of place) 1 → IsOnlySpot sig family g n (Some spot)
+IsOnlySpot-along sig g over family valid n a typed is asks place spot f e e' =
+    let P : List ℕ → Type 0 = λ there. StandsFrom sig family g n there × ((other : List ℕ) → StandsFrom sig family g n other → other ≡ there) in
+    subst P (sym (spot_read g family n place spot.first spot.second f e e')) (
+      StandsFrom-along sig g over family valid n asks (nodes_of place) f,
+      λ other at.
+          let h = Along-stands sig g over family valid n a typed is other at in
+          sym (same_elements (nodes_of place) other (f.count ∙ sym h.1.count) (λ k p q. agree g (shape_of family).types (root_bonds family) (InOrder-root family) n (length (root_bonds family)) (nodes_of place) f other h.1 (omega arith) (suc k) k (omega arith) p q)),
+    )
 
 -- ---- the sites that a family names
 
@@ -288,3 +433,13 @@ named_of sig family valid a s (t, has, is, e) =
 
 pub HasNamedSites-over : (sig : List TypeEntry) (g : List Node) (family : Family) → IsPatternOver sig g → IsFamily sig family → HasNamedSites g family
 HasNamedSites-over sig g family over valid n a s typed names = HasNodeSite-over sig g over n a s typed (named_of sig family valid a s names)
+
+-- where the nodes of a place have their types, each bond begins at a site that exists
+pub HasNodeSite-bond_over : (sig : List TypeEntry) (g : List Node) (family : Family) → IsPatternOver sig g → IsFamily sig family → (k : ℕ) (b : Bond) → slice_get (root_bonds family) k ≡ Some b → (place : List ℕ) → AreTyped g (shape_of family).types place → (p : ℕ) → slice_get place b.first.node ≡ Some p → HasNodeSite g p b.first.site
+HasNodeSite-bond_over sig g (Parallel a x u c y w) over valid k b is place typed p on = absurd cc
+HasNodeSite-bond_over sig g family over valid k b is place typed p on =
+    let has = first_end (shape_of family).bonds k b is in
+    let P : NodeSite → Type 0 = λ s. Nth (shape_of family).types s.node (λ a. HasSite sig a s.site) in
+    let sited = All-at P (ends (shape_of family).bonds) has.0 b.first (All-left P (ends (shape_of family).bonds) (shape_of family).columns (IsShape-of sig family valid).sites) has.1 in
+    let a = nth_of (shape_of family).types b.first.node (λ a. HasSite sig a b.first.site) sited in
+    HasNodeSite-over sig g over p a.0 b.first.site (typed b.first.node p a.0 on a.1) a.2

@@ -1,7 +1,6 @@
 use Rattle.std.proofs.Common.{drop}
-use Rattle.kasa_families.specs.Family.{shape_of}
 use Rattle.kasa_families.proofs.LeftLemmas.{ColumnsLeft}
 use Rattle.kasa_families.proofs.patterns.put_columns.Given as goal
 
 abbrev pub invariant-loop-k : goal.invariant-loop-k
-invariant-loop-k l = ColumnsLeft l.fn.g l.g (shape_of l.family).columns (drop l.k (shape_of l.family).columns) l.locals (drop l.k l.locals)
+invariant-loop-k l = ColumnsLeft l.fn.g l.g l.columns (drop l.k l.columns) l.locals (drop l.k l.locals)
