@@ -1,7 +1,8 @@
 -- Laws of first families of a type, of tables without rows, and of tables that take one row more.
 use Rattle.std.proofs.Common.{get_or, ◌≡◌, ◌≢◌, ℕ, zero, suc, ◌+◌, ◌<◌, ◌≤◌, ◌⊎◌, inl, inr, List, [], ◌∷◌, ◌++◌, length, refl, sym, ap, ◌∙◌, arith, length-append}
 use Rattle.std.specs.Prelude.{Some, slice_get, slice_set}
-use Rattle.std.proofs.lemmas.List.Sums.{sum_by-cons}
+use Rattle.std.proofs.lemmas.List.{map-append}
+use Rattle.std.proofs.lemmas.List.Sums.{sum_by-cons, sum_by-append}
 use Rattle.std.proofs.lemmas.Option.{slice_get_past, get_or_from_slice_get}
 use Rattle.kasa_graph.specs.Lists.{Has, AllDifferent, update}
 use Rattle.kasa_graph.proofs.ListLemmas.{same_or_not, below_or, length-update, map-update_same, slice_set-update, AllDifferent-[], pushed_or}
@@ -31,7 +32,7 @@ module _ (tables : List Table) (a : ℕ) where
     | inr ne ↦ before j up (omega arith) h
   ]
 
-  rooted_within : (f : ℕ) → IsRooted tables a f → f < length tables
+  pub rooted_within : (f : ℕ) → IsRooted tables a f → f < length tables
   rooted_within f (family, named, rooted) = elim (below_or f (length tables)) [
     | inl within ↦ within
     | inr past ↦ absurd (let t = table_of tables f family named in let none = slice_get_past tables f (omega (arith, past.1)) in cc)
@@ -151,3 +152,30 @@ table_at items tables n f t family same number named is =
 -- the tables whose f-th one is written anew
 pub written : (items tables : List Table) (n f : ℕ) (t u : Table) (row : Row) → items ≡ tables → n ≡ f → slice_get tables f ≡ Some t → u ≡ with_last row t → slice_set items n u ≡ with_row tables f row
 written items tables n f t u row same number at e = rw (same, number) (slice_set-update tables f t u (with_last row) at (sym e))
+
+-- ---- tables with one family more
+
+pub row_count-with_family : (tables : List Table) (family : Family) → row_count (tables ++ empty_table family ∷ []) ≡ row_count tables
+row_count-with_family tables family = let e = sum_by-append (λ (t : Table). length t.rows) tables (empty_table family ∷ []) in omega (arith, e)
+
+pub AreShapedTables-with_family : (tables : List Table) (family : Family) → AreShapedTables tables → ¬ Has (families_of tables) family → length tables < 8000 → AreShapedTables (tables ++ empty_table family ∷ [])
+AreShapedTables-with_family tables family shaped new room = record {
+  different = rw (map-append (λ (t : Table). t.family) tables (empty_table family ∷ [])) (AllDifferent-push (families_of tables) family shaped.different new);
+  rows_differ = λ t has. elim (pushed_or tables (empty_table family) t has.0 has.1) [
+    | inl e ↦ shaped.rows_differ t (has.0, e)
+    | inr e ↦ (rw e AllDifferent-[])
+  ];
+  shapes = λ t has. elim (pushed_or tables (empty_table family) t has.0 has.1) [
+    | inl e ↦ shaped.shapes t (has.0, e)
+    | inr e ↦ shaped_rows t (rw e refl)
+  ];
+  few = rw (length-append tables (empty_table family ∷ [])) (omega arith);
+  few_rows = rw (row_count-with_family tables family) shaped.few_rows;
+}
+
+-- ---- how many rows there are of one family
+
+pub rows-within : (tables : List Table) (f : ℕ) (t : Table) → slice_get tables f ≡ Some t → length t.rows ≤ row_count tables
+rows-within [] f t at = absurd cc
+rows-within (u ∷ tables) zero t at = let same : u ≡ t = cc in let count = row_count-cons u tables in rw (← same) (omega (arith, count))
+rows-within (u ∷ tables) (suc f) t at = let count = row_count-cons u tables in let rest = rows-within tables f t at in omega (arith, count, rest)

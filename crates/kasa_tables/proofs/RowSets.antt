@@ -1,5 +1,7 @@
 -- Sets of rows: which rows are among them, and what a new one comes to.
-use Rattle.std.proofs.Common.{◌≡◌, ◌≢◌, ℕ, zero, suc, Bool, true, false, List, [], ◌∷◌, ◌++◌, refl, sym, ap, Some, ◌↔◌}
+use Rattle.std.proofs.Common.{◌≡◌, ℕ, zero, suc, Bool, true, false, List, [], ◌∷◌, ◌++◌, refl, sym, ap, Some, ◌↔◌, ◌∙◌, get_or, position}
+use Rattle.std.proofs.lemmas.List.Quantifiers.{position-Some}
+use Rattle.std.proofs.lemmas.Option.{slice_get-get_or}
 use Rattle.std.specs.Prelude.{slice_get, IsTrue}
 use Rattle.std.specs.List.{list_any}
 use Rattle.indexmap.specs.IndexSet.{insert_key}
@@ -39,3 +41,9 @@ insert_new found row new = by (list_any ((rows.ghosts).eq row) found) refl
     by : (b : Bool) → b ≡ list_any ((rows.ghosts).eq row) found → insert_key (rows.ghosts).eq found row ≡ found ++ row ∷ []
     by true e = absurd (new (has_any found row (sym e)))
     by false e = rw (← e) refl
+
+-- the row is at its place among them
+pub at_position : (found : List Row) (row : Row) (k : ℕ) → position ((rows.ghosts).eq row) found ≡ Some k → slice_get found k ≡ Some row
+at_position found row k is =
+    let p = position-Some ((rows.ghosts).eq row) found k row is in
+    slice_get-get_or found k row p.0 ∙ ap Some (sym ((same_row row (get_or found k row)).0 p.1))

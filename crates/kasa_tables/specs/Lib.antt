@@ -1,1 +1,3 @@
 pub mod Insert
+pub mod Post
+pub mod Index

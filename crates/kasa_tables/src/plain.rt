@@ -16,7 +16,7 @@ use std::alloc::Global;
 use std::marker::Model;
 use thiserror::Error;
 
-const MOST_ROWS: usize = 200_000;
+pub(crate) const MOST_ROWS: usize = 200_000;
 
 /// Why a row wasn't inserted.
 #[derive(Debug, Drop, PartialEq, Eq, Error)]
