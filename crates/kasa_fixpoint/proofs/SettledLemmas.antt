@@ -8,7 +8,7 @@ use Rattle.kasa_families.specs.Table.{Table, AreTables, families_of}
 use Rattle.kasa_rules.specs.Rule.{RuleParts, IsRuleOver}
 use Rattle.kasa_pre.specs.Acts.{NamesTypeOf, TouchesOpen}
 use Rattle.kasa_pre.proofs.ActsLemmas.{nothing_new}
-use Rattle.kasa_views.specs.Results.{AreNewResults}
+use Rattle.kasa_columns.specs.Results.{AreNewResults}
 use Rattle.kasa_fixpoint.specs.declared.growing.Growing.{Growing}
 use Rattle.kasa_fixpoint.specs.Growing.{TakesIn}
 use Rattle.kasa_fixpoint.specs.Steps.{HaveResults}

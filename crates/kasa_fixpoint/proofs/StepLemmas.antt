@@ -17,7 +17,7 @@ use Rattle.kasa_families.specs.Pattern.{Occurs}
 use Rattle.kasa_families.specs.Table.{Table, AreTables, families_of, rows_of, HasShape, Holds, IsWithin}
 use Rattle.kasa_rules.specs.declared.model.Model.{Model}
 use Rattle.kasa_rules.specs.Rule.{RuleParts}
-use Rattle.kasa_views.specs.Results.{IsResult}
+use Rattle.kasa_columns.specs.Results.{IsResult}
 use Rattle.kasa_views.proofs.Forward.{length-locals}
 use Rattle.kasa_pre.specs.Closed.{IsYielded, IsClosed}
 use Rattle.kasa_pre.proofs.AllowedLemmas.{IsAllowed-within}

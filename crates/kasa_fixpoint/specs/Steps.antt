@@ -12,7 +12,7 @@ use Rattle.kasa_rules.specs.declared.model.Model.{Model}
 use Rattle.kasa_rules.specs.Rule.{RuleParts}
 use Rattle.kasa_pre.specs.Closed.{IsInitial, IsYielded, IsClosed}
 use Rattle.kasa_views.specs.View.{IsView}
-use Rattle.kasa_views.specs.Results.{IsResult}
+use Rattle.kasa_columns.specs.Results.{IsResult}
 use Rattle.kasa_fixpoint.specs.declared.growing.Growing.{Growing}
 use Rattle.kasa_fixpoint.specs.Growing.{HasRoom, HaveRowsOf}
 

@@ -2,7 +2,6 @@
 -- no bond that the rule could write.
 use Rattle.std.proofs.Common.{◌≡◌, ℕ, suc, List, [], ◌∷◌, refl, ap, ◌∙◌, length, map, None}
 use Rattle.std.specs.List.{AllZip}
-use Rattle.kasa_graph.specs.declared.pattern.Node.{Node}
 use Rattle.kasa_graph.specs.Signature.{TypeEntry}
 use Rattle.kasa_graph.specs.Lists.{Has}
 use Rattle.kasa_families.specs.declared.family.Family.TheVariants.{View}

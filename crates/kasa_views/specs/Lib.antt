@@ -1,6 +1,2 @@
 pub mod View
-pub mod Seen
 pub mod Comes
-pub mod Results
-pub mod Outcomes
-pub mod Collect

@@ -16,5 +16,9 @@ ghost use Rattle.kasa_views.specs.Comes.{ComesForward};
 /// agent: at each site the stored row's local state, or what the rule writes, or free where the rule touches a left site
 /// that the stored partner may be.
 pub fn yielded_rows_come_forward()
-    ensures { (sig : List TypeEntry) (tables : List Table) (r : RuleParts) (a : ℕ) (sites : List ℕ) (locals : List Local) → AreTables sig tables → IsRuleOver sig r → Has (families_of tables) (View a sites) → IsRow sig (View a sites) (Locals locals) → Yields sig tables r (View a sites) (Locals locals) ↔ ComesForward sig tables r a sites locals }
+    ensures { (sig : List TypeEntry) (tables : List Table) (r : RuleParts) (a : ℕ)
+        (sites : List ℕ) (locals : List Local) → AreTables sig tables → IsRuleOver sig r →
+        Has (families_of tables) (View a sites) → IsRow sig (View a sites) (Locals locals) →
+        Yields sig tables r (View a sites) (Locals locals) ↔
+        ComesForward sig tables r a sites locals }
 {}

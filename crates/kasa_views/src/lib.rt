@@ -1,12 +1,7 @@
-//! The rows of views: those that stand in an init, and those that a rule yields.
+//! The rows of views: those that occur in an init, and those that a rule yields.
 #![tactic(auto)]
 
-mod collect;
 pub mod laws;
-mod outcomes;
-mod seen;
-mod walk;
-mod yielded;
+mod rows;
 
-pub use seen::initial;
-pub use yielded::{missing, new_results, results};
+pub use rows::{initial, missing, new_results, results};

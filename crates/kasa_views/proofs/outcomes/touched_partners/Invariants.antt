@@ -1,8 +1,0 @@
-use Rattle.std.proofs.Common.{◌↔◌, ◌<◌}
-use Rattle.kasa_graph.specs.Lists.{Has}
-use Rattle.kasa_pre.specs.declared.FreedBy.{FreedBy}
-use Rattle.kasa_views.specs.Outcomes.{IsTouchedFor}
-use Rattle.kasa_views.proofs.outcomes.touched_partners.Given as goal
-
-abbrev pub invariant-loop-n : goal.invariant-loop-n
-invariant-loop-n l = (f : FreedBy) → Has l.found.items f ↔ ((f.from < l.n) × IsTouchedFor l.rule l.site l.agent l.«at» f)

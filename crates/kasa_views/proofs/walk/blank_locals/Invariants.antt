@@ -1,8 +1,0 @@
-use Rattle.std.proofs.Common.{◌≡◌, ℕ, map, take}
-use Rattle.std.specs.Prelude.{None}
-use Rattle.kasa_families.specs.declared.row.Local.{Local}
-use Rattle.kasa_families.specs.declared.row.LocalLink.TheVariants.{Free}
-use Rattle.kasa_views.proofs.walk.blank_locals.Given as goal
-
-abbrev pub invariant-loop : goal.invariant-loop
-invariant-loop l = l.locals.items ≡ map (λ (s : ℕ). let x : Local = record { state = None; link = Free } in x) (take l.index l.sites)

@@ -1,6 +1,0 @@
-use Rattle.kasa_views.specs.Collect.{GoesOn}
-use Rattle.kasa_views.proofs.WalkLemmas.{FirstRows}
-use Rattle.kasa_views.proofs.walk.try_stored.Given as goal
-
-abbrev pub invariant-loop-k : goal.invariant-loop-k
-invariant-loop-k g l = GoesOn l.search.sig.now (g.R.Rows.tables l.search.rows.now) l.search.rule.now l.search.number l.search.aim l.initial.found.keys l.found.keys × FirstRows l.search.sig.now (g.R.Rows.tables l.search.rows.now) l.search.rule.now l.search.number l.search.aim l.search.agent l.search.sites.now l.stand l.k l.found.keys
