@@ -10,12 +10,12 @@ ghost use Rattle.kasa_fixpoint.specs.Growing.{HasRoom, HasGrown, TakesIn, LacksR
 use crate::fault::SolveFault;
 use kasa_families::Row;
 use kasa_num::FamilyNo;
-use kasa_tables::{InsertFault, PlainTables};
+use kasa_tables::{InsertFault, Tables};
 
 // Tables that may have at most so many rows, and room for more of them.
 #[derive(Drop)]
 pub(crate) struct Growing {
-    pub(crate) tables: PlainTables,
+    pub(crate) tables: Tables,
     pub(crate) room: usize,
     pub(crate) most: usize,
 }

@@ -24,7 +24,7 @@ use kasa_graph::Mixture;
 use kasa_num::FamilyNo;
 use kasa_pre::{acts_on_all, names_type_of};
 use kasa_rules::{Model, Rule};
-use kasa_tables::PlainTables;
+use kasa_tables::Tables;
 use kasa_views::{initial, new_results};
 use std::alloc::Global;
 
@@ -34,7 +34,7 @@ const MOST_ROWS: usize = 200_000;
 /// tables is there, and no other one. `TooManyRows` comes exactly where no closed tables over the views have at most
 /// 200,000 rows. What the lemmas of the tables say holds in every mixture that the model reaches, and no rule that is
 /// dead in them ever fires there.
-pub fn solve(alloc: Global, model: &Model, families: Vec<Family>) -> Result<PlainTables, SolveFault>
+pub fn solve(alloc: Global, model: &Model, families: Vec<Family>) -> Result<Tables, SolveFault>
     requires valid { (family : Family) → Has families.items family → IsFamily model.now.sig family }
     requires different { AllDifferent families.items }
     requires few { length families.items ≤ 8000 }
@@ -56,7 +56,7 @@ pub(crate) fn solve_within(
     model: &Model,
     families: Vec<Family>,
     most: usize,
-) -> Result<PlainTables, SolveFault>
+) -> Result<Tables, SolveFault>
     requires valid { (family : Family) → Has families.items family → IsFamily model.now.sig family }
     requires different { AllDifferent families.items }
     requires few { length families.items ≤ 8000 }
@@ -70,7 +70,7 @@ pub(crate) fn solve_within(
     ensures lemmas { IfOk result (λ tables. (m : List (Option Agent)) → Reached model.now m → (family : Family) → Has families.items family → LemmaHolds model.now.sig tables family m) }
     ensures dead { IfOk result (λ tables. (m : List (Option Agent)) → Reached model.now m → (r : RuleParts) → IsDead model.now.sig tables r → (cells : List ℕ) → ¬ IsEmbedding r.left m cells) }
 {
-    let tables = PlainTables::new(alloc, &model.sig, families)?;
+    let tables = Tables::new(alloc, &model.sig, families)?;
     let mut growing = Growing {
         tables,
         room: most,

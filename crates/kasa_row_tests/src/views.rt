@@ -13,7 +13,7 @@ use kasa_fixpoint::solve;
 use kasa_graph::Signature;
 use kasa_num::{AgentType, FamilyNo, SiteNo};
 use kasa_rules::{Model, Rule};
-use kasa_tables::PlainTables;
+use kasa_tables::Tables;
 use kasa_views::{missing, new_results, results};
 use std::alloc::Global;
 use std::process::Abort;
@@ -74,20 +74,20 @@ fn beams(rt: &impl Abort, alloc: Global, sig: &Signature) -> Result<Vec<Family>,
     Ok(families)
 }
 
-fn least(rt: &impl Abort, alloc: Global, model: &Model) -> Result<PlainTables, Fail>
+fn least(rt: &impl Abort, alloc: Global, model: &Model) -> Result<Tables, Fail>
     ensures { IfOk result (λ tables. AreTables model.now.sig tables) }
 {
     Ok(solve(alloc, model, beams(rt, alloc, &model.sig)?)?)
 }
 
-fn empty(rt: &impl Abort, alloc: Global, model: &Model) -> Result<PlainTables, Fail>
+fn empty(rt: &impl Abort, alloc: Global, model: &Model) -> Result<Tables, Fail>
     ensures { IfOk result (λ tables. AreTables model.now.sig tables) }
 {
     let families = beams(rt, alloc, &model.sig)?;
-    Ok(PlainTables::new(alloc, &model.sig, families)?)
+    Ok(Tables::new(alloc, &model.sig, families)?)
 }
 
-fn has_view(tables: &PlainTables) -> bool
+fn has_view(tables: &Tables) -> bool
     ensures { IsTrue result → (family : Family) × (slice_get (families_of tables.now) 0 ≡ Some family) × IsView family }
 {
     match tables.family(BEAMS) {
@@ -108,7 +108,7 @@ fn yielded(
     rt: &impl Abort,
     alloc: Global,
     model: &Model,
-    tables: &PlainTables,
+    tables: &Tables,
     rule: usize,
     most: usize,
 ) -> Result<Vec<Row>, Fail>
@@ -125,7 +125,7 @@ fn new_ones(
     rt: &impl Abort,
     alloc: Global,
     model: &Model,
-    tables: &PlainTables,
+    tables: &Tables,
     rule: usize,
 ) -> Result<Vec<Row>, Fail>
     requires { AreTables model.now.sig tables.now }
@@ -141,7 +141,7 @@ fn first_missing(
     rt: &impl Abort,
     alloc: Global,
     model: &Model,
-    tables: &PlainTables,
+    tables: &Tables,
     rule: usize,
 ) -> Result<Option<Row>, Fail>
     requires { AreTables model.now.sig tables.now }

@@ -12,3 +12,6 @@ mod search;
 
 pub use indexed::IndexedTables;
 pub use plain::{InsertFault, PlainTables};
+
+/// The tables that the program keeps.
+pub type Tables = IndexedTables;

@@ -19,7 +19,7 @@ use kasa_edge::{Failed, FetchFault, Shelf, Sink};
 use kasa_fixpoint::solve;
 use kasa_num::NoMemory;
 use kasa_rules::Model;
-use kasa_tables::PlainTables;
+use kasa_tables::Tables;
 use std::alloc::Global;
 
 /// The most bytes of a model's text: 4 MiB.
@@ -68,7 +68,7 @@ fn fetch_model<S: Shelf>(shelf: &mut S, name: &str) -> Result<Vec<u8>, Status>
 }
 
 // The least tables of a model's planned views.
-fn solve_plan(alloc: Global, model: &Model) -> Result<PlainTables, Status>
+fn solve_plan(alloc: Global, model: &Model) -> Result<Tables, Status>
     ensures solved { IfOk result (λ tables. IsSolved model.now tables) }
     ensures unsolved { IfErr result (λ status. IsUnsolved model.now status) }
 {
