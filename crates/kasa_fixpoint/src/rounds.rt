@@ -173,6 +173,7 @@ fn apply(
 ) -> Result<bool, SolveFault>
     requires under_way { IsUnderWay model.now growing.old }
     requires rule { Has model.now.rules rule.now }
+    requires over { IsRuleOver model.now.sig rule.now }
     ensures step { IfOk result (λ _. IsStep model.now growing.old growing.new) }
     ensures grown { IfOk result (λ grew. HasGrown growing.old growing.new grew) }
     ensures settled { IfOk result (λ grew. grew ≡ false → (f : ℕ) → HaveResults model.now.sig growing.new.tables rule.now f) }

@@ -1,15 +1,9 @@
-use Rattle.std.proofs.Common.{◌<◌, ap, arith}
-use Rattle.kasa_rules.specs.declared.model.Model.{Model}
+use Rattle.std.proofs.Common.{◌<◌, arith}
 use Rattle.kasa_fixpoint.specs.Steps.{HaveResults}
 use Rattle.kasa_fixpoint.proofs.GrowLemmas.{HasGrown-then}
 use Rattle.kasa_fixpoint.proofs.StepLemmas.{IsStep-then}
 use Rattle.kasa_fixpoint.proofs.LoopLemmas.{within_tables, settled_next}
 use Rattle.kasa_fixpoint.proofs.rounds.apply.Goals as goal
-
-pub apply_to-requires-clause-over : goal.apply_to-requires-clause-over
-apply_to-requires-clause-over c =
-    let rule = c.requires.rule in
-    rw (ap (λ (m : Model). m.sig) c.model.view_is) at (c.model.invariant.0.rules rule.0 c.args.rule.now (rw (← c.model.view_is) at rule.1))
 
 pub loop-f-preserved : goal.loop-f-preserved
 loop-f-preserved c = record {

@@ -9,6 +9,12 @@ use Rattle.kasa_fixpoint.proofs.StepLemmas.{IsStep-then}
 use Rattle.kasa_fixpoint.proofs.LoopLemmas.{settled_next}
 use Rattle.kasa_fixpoint.proofs.rounds.round.Goals as goal
 
+pub apply-requires-clause-over : goal.apply-requires-clause-over
+apply-requires-clause-over c =
+    let items = c.as_slice-rule-items.ensures ∙ ap (λ (m : Model). m.rules) c.model.view_is in
+    let at : slice_get c.args.model.now.rules c.loop-rule.rule-index ≡ Some c.rule-item.result = rw items at (slice_get_read c.as_slice-rule-items.result.now _ c.loop-rule.rule-index c.rule-item.result refl c.loop-rule-test.true c.rule-item.is) in
+    rw (ap (λ (m : Model). m.sig) c.model.view_is) at (c.model.invariant.0.rules c.loop-rule.rule-index c.rule-item.result (rw (← c.model.view_is) at at))
+
 pub loop-rule-preserved : goal.loop-rule-preserved
 loop-rule-preserved c =
     let items = c.as_slice-rule-items.ensures ∙ ap (λ (m : Model). m.rules) c.model.view_is in
