@@ -5,11 +5,13 @@ ghost use Rattle.std.specs.Prelude.{◌≡◌, IfOk};
 
 pub mod limits;
 mod listed;
+mod steps;
 
 pub use listed::Listed;
 use std::alloc::{AllocError, AllocFailed, Global};
 use std::cmp::Ordering;
 use std::marker::Model;
+pub use steps::Steps;
 use thiserror::Error;
 
 /// There is no memory.
