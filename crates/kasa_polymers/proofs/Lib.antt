@@ -13,6 +13,12 @@ pub mod Rounds
 pub mod Cycles
 pub mod FirstCycle
 pub mod Verdicts
+pub mod NumberLemmas
+pub mod SumLemmas
 pub mod AddsLemmas
 pub mod GatherLemmas
+pub mod PointLemmas
+pub mod BoundLemmas
+pub mod GraphLemmas
+pub mod BondPatterns
 pub mod MapLemmas

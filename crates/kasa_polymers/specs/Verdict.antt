@@ -2,6 +2,7 @@
 use Rattle.std.specs.Prelude.{ℕ, ◌^◌, ◌<◌, ◌≤◌, ⊤, List, Option}
 use Rattle.kasa_graph.specs.declared.mixture.Agent.{Agent}
 use Rattle.kasa_rules.specs.declared.model.Model.{Model}
+use Rattle.kasa_rules.specs.Reached.{Reached}
 use Rattle.kasa_families.specs.Table.{Table}
 use Rattle.kasa_polymers.specs.declared.map.Polymers.{Polymers}
 use Rattle.kasa_polymers.specs.declared.map.Polymers.TheVariants.{AtMost, Beyond, Cycle}
@@ -18,3 +19,7 @@ IsVerdict model tables (Cycle walk) = IsFirstCycle model tables walk
 abbrev pub BoundsSpecies : Polymers → List (Option Agent) → Type 0
 BoundsSpecies (AtMost n) m = AllSpeciesWithin m n
 BoundsSpecies _ m = ⊤
+
+-- none of a mixture that the model reaches has more
+abbrev pub BoundsReached : Model → Polymers → Type 0
+BoundsReached model verdict = (m : List (Option Agent)) → Reached model m → BoundsSpecies verdict m

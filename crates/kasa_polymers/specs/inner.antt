@@ -1,2 +1,4 @@
 -- What holds in the midst of loops: nothing that a reader of the public clauses needs.
 pub mod Gather
+pub mod Steps
+pub mod Bound
