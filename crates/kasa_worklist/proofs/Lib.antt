@@ -1,0 +1,4 @@
+pub mod ListLemmas
+pub mod AgendaLemmas
+pub mod SumLemmas
+pub mod TurnLemmas

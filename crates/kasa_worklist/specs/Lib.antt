@@ -1,0 +1,5 @@
+pub mod Sums
+pub mod System
+pub mod Counts
+pub mod Agenda
+pub mod Turn
