@@ -8,19 +8,19 @@ use Rattle.kasa_lists.proofs.Numbers.{same_or_not, less_or}
 use Rattle.kasa_lists.proofs.Elements.{at_push, slice_get-pushed, slice_get-last}
 use Rattle.kasa_lists.proofs.Having.{Has-[], Has-head, Has-later, Has-cons, Has-append, Has-left, Has-right, Has-push, Has-last}
 use Rattle.kasa_lists.proofs.Different.{AllDifferent-tail, AllDifferent-head, AllDifferent-push}
-use Rattle.kasa_worklist.specs.Agenda.{Listed, Agree, Takes, Puts}
+use Rattle.kasa_worklist.specs.Agenda.{Waiting, MarksAgree, Takes, Puts}
 use Rattle.kasa_worklist.proofs.ListLemmas.{slice_get-set_same, slice_get-set_here, slice_get-set_other, length-slice_set}
 
 -- the first number is taken
-module _ (queue old : List ℕ) (on : List Bool) (k : ℕ) (agree : Agree old on) (is : old ≡ k ∷ queue) where
+module _ (queue old : List ℕ) (on : List Bool) (k : ℕ) (agree : MarksAgree old on) (is : old ≡ k ∷ queue) where
   pub taken_within : k < length on
   taken_within = slice_get_within on k true (agree.marked k (rw is (Has-head k queue)))
 
   fresh : ¬ Has queue k
   fresh has = AllDifferent-head k queue has.0 (rw is at agree.different) has.1
 
-  pub Agree-taken : Agree queue (slice_set on k false)
-  Agree-taken = record {
+  pub MarksAgree-taken : MarksAgree queue (slice_set on k false)
+  MarksAgree-taken = record {
     listed = λ j at. elim (same_or_not k j) [
       | inl e ↦ absurd (let off = slice_get-set_same on k true false (rw (← e) at at) in cc)
       | inr ne ↦ elim (Has-cons k queue j (rw is at (agree.listed j (rw (slice_get-set_other on k j false ne) at at)))) [
@@ -43,9 +43,9 @@ module _ (queue old : List ℕ) (on : List Bool) (k : ℕ) (agree : Agree old on
   }
 
 -- a number is put that wasn't there
-module _ (queue : List ℕ) (on : List Bool) (k : ℕ) (agree : Agree queue on) (below : k < length on) where
-  pub Agree-put : slice_get on k ≢ Some true → Agree (queue ++ k ∷ []) (slice_set on k true)
-  Agree-put off = record {
+module _ (queue : List ℕ) (on : List Bool) (k : ℕ) (agree : MarksAgree queue on) (below : k < length on) where
+  pub MarksAgree-put : slice_get on k ≢ Some true → MarksAgree (queue ++ k ∷ []) (slice_set on k true)
+  MarksAgree-put off = record {
     listed = λ j at. elim (same_or_not k j) [
       | inl e ↦ rw (← e) (Has-right queue (k ∷ []) k (0, refl))
       | inr ne ↦ Has-left queue (k ∷ []) j (agree.listed j (rw (slice_get-set_other on k j true ne) at at))
@@ -69,7 +69,7 @@ module _ (queue : List ℕ) (on : List Bool) (k : ℕ) (agree : Agree queue on) 
     high = let e = length-append queue (k ∷ []) in omega arith;
   }
 
-pub Puts-there : (a : Listed) (k : ℕ) → Has a.numbers k → Puts (k ∷ []) a a
+pub Puts-there : (a : Waiting) (k : ℕ) → Has a.numbers k → Puts (k ∷ []) a a
 Puts-there a k there = record {
   size = refl;
   kept = λ j has. has;
@@ -78,7 +78,7 @@ Puts-there a k there = record {
   high = omega arith;
 }
 
-pub Puts-none : (a : Listed) → Puts [] a a
+pub Puts-none : (a : Waiting) → Puts [] a a
 Puts-none a = record {
   size = refl;
   kept = λ j has. has;
@@ -87,7 +87,7 @@ Puts-none a = record {
   high = omega arith;
 }
 
-pub Puts-then : (numbers : List ℕ) (k : ℕ) (a b c : Listed) → Puts numbers a b → Puts (k ∷ []) b c → Puts (numbers ++ k ∷ []) a c
+pub Puts-then : (numbers : List ℕ) (k : ℕ) (a b c : Waiting) → Puts numbers a b → Puts (k ∷ []) b c → Puts (numbers ++ k ∷ []) a c
 Puts-then numbers k a b c first second = record {
   size = second.size ∙ first.size;
   kept = λ j has. second.kept j (first.kept j has);
@@ -99,7 +99,7 @@ Puts-then numbers k a b c first second = record {
   high = let l = first.high in let m = second.high in let n = length-append numbers (k ∷ []) in omega arith;
 }
 
-pub Puts-next : (numbers : List ℕ) (i k : ℕ) (a b c : Listed) → i < length numbers → get_or numbers i 0 ≡ k → Puts (take i numbers) a b → Puts (k ∷ []) b c → Puts (take (i + 1) numbers) a c
+pub Puts-next : (numbers : List ℕ) (i k : ℕ) (a b c : Waiting) → i < length numbers → get_or numbers i 0 ≡ k → Puts (take i numbers) a b → Puts (k ∷ []) b c → Puts (take (i + 1) numbers) a c
 Puts-next numbers i k a b c below is first second =
     let next : take (i + 1) numbers ≡ take i numbers ++ k ∷ [] = rw (take_more numbers i 0 below, is) refl in
     rw next (Puts-then (take i numbers) k a b c first second)
@@ -141,8 +141,8 @@ AreBelow-next queue next on more k is_next is_more are = rw (is_next, is_more) (
   size = let l = length-append on (true ∷ []) in let c = are.size in omega arith;
 })
 
-pub Agree-below : (queue : List ℕ) (on : List Bool) (k : ℕ) → AreBelow queue on k → Agree queue on
-Agree-below queue on k are = record {
+pub MarksAgree-below : (queue : List ℕ) (on : List Bool) (k : ℕ) → AreBelow queue on k → MarksAgree queue on
+MarksAgree-below queue on k are = record {
   listed = λ j at. are.all j (let w = slice_get_within on j true at in let s = are.size in omega arith);
   marked = λ j has. are.marks j (are.each has.0 j has.1).1;
   different = λ i j x p q. (are.each i x p).0 ∙ sym (are.each j x q).0;

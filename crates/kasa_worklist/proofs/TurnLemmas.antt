@@ -4,10 +4,10 @@ use Rattle.std.proofs.lemmas.Nat.{row_fits}
 use Rattle.kasa_lists.specs.Lists.{Has}
 use Rattle.kasa_lists.proofs.Numbers.{same_or_not}
 use Rattle.kasa_lists.proofs.Having.{Has-[], Has-cons}
-use Rattle.kasa_worklist.specs.System.{Relations, HaveResults, IsClosed, AreLawful, AreReaders, HasRoom, IsLeast, PassesLimit, row_count}
+use Rattle.kasa_worklist.specs.System.{Relations, HavePairResults, HaveAllResults, AreLawful, AreReaders, AreWithinLimit, AreLeastAbove, IsLimitPassed, rows_in_all}
 use Rattle.kasa_worklist.specs.Counts.{reader_count, weigh}
-use Rattle.kasa_worklist.specs.Agenda.{Listed, Takes, Puts}
-use Rattle.kasa_worklist.specs.Turn.{HasGrown, Grows, Applies, AreSettled, IsTurn}
+use Rattle.kasa_worklist.specs.Agenda.{Waiting, Takes, Puts}
+use Rattle.kasa_worklist.specs.Turn.{HaveGrown, Grows, Applies, AreSettled, IsTurn}
 use Rattle.kasa_worklist.proofs.SumLemmas.{sum_below-same, sum_below-grown, count-below, sum_below-few}
 
 -- ---- rows weighed
@@ -21,29 +21,29 @@ heavier w more old new h = let fits = rw_mul w (old + more) new h in let spread 
     rw_mul (suc w) a b h = let rest = rw_mul w a b h in omega arith
 
 module _ {T X : Type 0} (s : Relations T X) (f : ℕ) (below : f < s.families) (old new : T) where
-  pub weigh-grown : (w : ℕ → ℕ) → HasGrown s f old new true → weigh s w old + w f ≤ weigh s w new
+  pub weigh-grown : (w : ℕ → ℕ) → HaveGrown s f old new true → weigh s w old + w f ≤ weigh s w new
   weigh-grown w grown =
       let longer = grown.more refl in
       let here = heavier (w f) 1 (length (s.rows old f)) (length (s.rows new f)) (omega arith) in
       sum_below-grown s.families (λ k. w k * length (s.rows old k)) (λ k. w k * length (s.rows new k)) f (w f) below (λ k ne. rw (grown.others k ne) refl) (omega arith)
 
-  pub row_count-grown : HasGrown s f old new true → row_count s old + 1 ≤ row_count s new
-  row_count-grown grown =
+  pub rows_in_all-grown : HaveGrown s f old new true → rows_in_all s old + 1 ≤ rows_in_all s new
+  rows_in_all-grown grown =
       let longer = grown.more refl in
       sum_below-grown s.families (λ k. length (s.rows old k)) (λ k. length (s.rows new k)) f 1 below (λ k ne. rw (grown.others k ne) refl) (omega arith)
 
-  pub weigh-same : (w : ℕ → ℕ) → HasGrown s f old new false → weigh s w new ≡ weigh s w old
+  pub weigh-same : (w : ℕ → ℕ) → HaveGrown s f old new false → weigh s w new ≡ weigh s w old
   weigh-same w grown = sum_below-same s.families (λ k. w k * length (s.rows new k)) (λ k. w k * length (s.rows old k)) (λ k less. rw (grown.same refl k) refl)
 
-  pub row_count-same : HasGrown s f old new false → row_count s new ≡ row_count s old
-  row_count-same grown = sum_below-same s.families (λ k. length (s.rows new k)) (λ k. length (s.rows old k)) (λ k less. rw (grown.same refl k) refl)
+  pub rows_in_all-same : HaveGrown s f old new false → rows_in_all s new ≡ rows_in_all s old
+  rows_in_all-same grown = sum_below-same s.families (λ k. length (s.rows new k)) (λ k. length (s.rows old k)) (λ k less. rw (grown.same refl k) refl)
 
 -- ---- a turn
 
 falls : (room less n was now : ℕ) → less < room → now < was + (n + 1) → less * (n + 1) + now < room * (n + 1) + was
 falls room less n was now h k = let fits = row_fits less (n + 1) room (n + 1) h (omega arith) in omega arith
 
-module _ {T X : Type 0} (s : Relations T X) (lawful : AreLawful s) (p : ℕ) (pair : p < s.pairs) (was mid : Listed) (takes : Takes p was mid) (old new : T) (was_ok : HasRoom s old) where
+module _ {T X : Type 0} (s : Relations T X) (lawful : AreLawful s) (p : ℕ) (pair : p < s.pairs) (was mid : Waiting) (takes : Takes p was mid) (old new : T) (was_ok : AreWithinLimit s old) where
   kept_or : (q : ℕ) → Has was.numbers q → (q ≡ p) ⊎ Has mid.numbers q
   kept_or q has = Has-cons p mid.numbers q (rw takes.first at has)
 
@@ -67,7 +67,7 @@ module _ {T X : Type 0} (s : Relations T X) (lawful : AreLawful s) (p : ℕ) (pa
   IsTurn-still applies =
       let few = fewer in
       let weight = weigh-same s (s.family p) (lawful.family p pair) old new (reader_count s) applies.grown in
-      let count = row_count-same s (s.family p) (lawful.family p pair) old new applies.grown in
+      let count = rows_in_all-same s (s.family p) (lawful.family p pair) old new applies.grown in
       record {
         grows = applies.grows;
         settled = settled_same applies;
@@ -76,7 +76,7 @@ module _ {T X : Type 0} (s : Relations T X) (lawful : AreLawful s) (p : ℕ) (pa
         less = rw count (omega arith);
       }
 
-  module _ (now : Listed) (readers : List ℕ) (are : AreReaders s (s.family p) readers) (puts : Puts readers mid now) (applies : Applies s p old new true) where
+  module _ (now : Waiting) (readers : List ℕ) (are : AreReaders s (s.family p) readers) (puts : Puts readers mid now) (applies : Applies s p old new true) where
     -- what a pair that doesn't read the family yields now, it yielded before
     still : (q : ℕ) (row : X) → q < s.pairs → s.reads q (s.family p) ≡ false → s.yields new q row → s.yields old q row
     still q row within reads yields = lawful.local old new q row within was_ok.valid applies.grows.has_room.valid (λ g does other has. elim (same_or_not g (s.family p)) [
@@ -87,7 +87,7 @@ module _ {T X : Type 0} (s : Relations T X) (lawful : AreLawful s) (p : ℕ) (pa
     settled_grown : AreSettled s was.numbers old → AreSettled s now.numbers new
     settled_grown settled q within = by (s.reads q (s.family p)) refl
       where
-        by : (b : Bool) → s.reads q (s.family p) ≡ b → Has now.numbers q ⊎ HaveResults s new q
+        by : (b : Bool) → s.reads q (s.family p) ≡ b → Has now.numbers q ⊎ HavePairResults s new q
         by true reads = inl (puts.held q ((are.exact q).1 (within, reads)))
         by false reads = elim (settled q within) [
           | inl listed ↦ elim (kept_or q listed) [
@@ -108,20 +108,20 @@ module _ {T X : Type 0} (s : Relations T X) (lawful : AreLawful s) (p : ℕ) (pa
         let count = few_readers in
         let all = sum_below-few s.pairs (λ q. s.reads q (s.family p)) in
         let weight = weigh-grown s (s.family p) (lawful.family p pair) old new (reader_count s) applies.grown in
-        let more = row_count-grown s (s.family p) (lawful.family p pair) old new applies.grown in
+        let more = rows_in_all-grown s (s.family p) (lawful.family p pair) old new applies.grown in
         let room = applies.grows.has_room.few in
         record {
           grows = applies.grows;
           settled = settled_grown;
           low = omega arith;
           high = omega arith;
-          less = falls (s.most - row_count s old) (s.most - row_count s new) s.pairs (length was.numbers) (length now.numbers) (omega arith) (omega arith);
+          less = falls (s.most - rows_in_all s old) (s.most - rows_in_all s new) s.pairs (length was.numbers) (length now.numbers) (omega arith) (omega arith);
         }
 
 -- ---- one after another
 
 module _ {T X : Type 0} (s : Relations T X) where
-  pub Grows-none : (tables : T) → HasRoom s tables → Grows s tables tables
+  pub Grows-none : (tables : T) → AreWithinLimit s tables → Grows s tables tables
   Grows-none tables room = record { has_room = room; kept = λ k row has. has; forced = λ others valid closed have. have }
 
   pub Grows-then : (a b c : T) → Grows s a b → Grows s b c → Grows s a c
@@ -131,21 +131,21 @@ module _ {T X : Type 0} (s : Relations T X) where
     forced = λ others valid closed have. second.forced others valid closed (first.forced others valid closed have);
   }
 
-  pub PassesLimit-then : (a b : T) → Grows s a b → PassesLimit s b → PassesLimit s a
-  PassesLimit-then a b grows passes others valid closed have = passes others valid closed (grows.forced others valid closed have)
+  pub past_limit-then : (a b : T) → Grows s a b → IsLimitPassed s b → IsLimitPassed s a
+  past_limit-then a b grows passes others valid closed have = passes others valid closed (grows.forced others valid closed have)
 
   -- ---- the end
 
-  pub IsClosed-settled : (tables : T) → AreSettled s [] tables → IsClosed s tables
-  IsClosed-settled tables settled p within = elim (settled p within) [
+  pub all_results_held : (tables : T) → AreSettled s [] tables → HaveAllResults s tables
+  all_results_held tables settled p within = elim (settled p within) [
     | inl listed ↦ absurd (Has-[] p listed)
     | inr results ↦ results
   ]
 
-  pub IsLeast-closed : (start tables : T) → Grows s start tables → IsClosed s tables → IsLeast s start tables
-  IsLeast-closed start tables grows closed = record { room = grows.has_room; begins = grows.kept; closed = closed; least = grows.forced }
+  pub are_least : (start tables : T) → Grows s start tables → HaveAllResults s tables → AreLeastAbove s start tables
+  are_least start tables grows closed = record { room = grows.has_room; begins = grows.kept; closed = closed; least = grows.forced }
 
-  pub not_passed : (start tables : T) → Grows s start tables → IsClosed s tables → ¬ PassesLimit s start
+  pub not_passed : (start tables : T) → Grows s start tables → HaveAllResults s tables → ¬ IsLimitPassed s start
   not_passed start tables grows closed passes =
       let more = passes tables grows.has_room.valid closed grows.kept in
       let few = grows.has_room.few in

@@ -17,21 +17,21 @@ pub record Relations (T X : Type 0) : Type 1 where
   pub yields : T → ℕ → X → Type 0
 
 -- what the first tables have of a family, the second ones have of it
-abbrev pub HaveRowsOf : {T X : Type 0} → Relations T X → T → T → Type 0
-HaveRowsOf {X = X} s first second = (k : ℕ) (row : X) → Has (s.rows first k) row → Has (s.rows second k) row
+abbrev pub RowsAreAmong : {T X : Type 0} → Relations T X → T → T → Type 0
+RowsAreAmong {X = X} s first second = (k : ℕ) (row : X) → Has (s.rows first k) row → Has (s.rows second k) row
 
 -- the tables have what the pair yields from them
-abbrev pub HaveResults : {T X : Type 0} → Relations T X → T → ℕ → Type 0
-HaveResults {X = X} s tables p = (row : X) → s.yields tables p row → Has (s.rows tables (s.family p)) row
+abbrev pub HavePairResults : {T X : Type 0} → Relations T X → T → ℕ → Type 0
+HavePairResults {X = X} s tables p = (row : X) → s.yields tables p row → Has (s.rows tables (s.family p)) row
 
-abbrev pub IsClosed : {T X : Type 0} → Relations T X → T → Type 0
-IsClosed s tables = (p : ℕ) → p < s.pairs → HaveResults s tables p
+abbrev pub HaveAllResults : {T X : Type 0} → Relations T X → T → Type 0
+HaveAllResults s tables = (p : ℕ) → p < s.pairs → HavePairResults s tables p
 
 pub record AreLawful {T X : Type 0} (s : Relations T X) : Type 0 where
   pub family : (p : ℕ) → p < s.pairs → s.family p < s.families
   -- what is yielded from tables is yielded from larger ones
   pub monotone : (first second : T) (p : ℕ) (row : X) → p < s.pairs → s.valid first → s.valid second →
-      HaveRowsOf s first second → s.yields first p row → s.yields second p row
+      RowsAreAmong s first second → s.yields first p row → s.yields second p row
   -- where no family that the pair reads has new rows, the pair yields nothing new
   pub local : (first second : T) (p : ℕ) (row : X) → p < s.pairs → s.valid first → s.valid second →
       ((g : ℕ) → s.reads p g ≡ true → (other : X) → Has (s.rows second g) other → Has (s.rows first g) other) →
@@ -43,23 +43,23 @@ pub record AreReaders {T X : Type 0} (s : Relations T X) (g : ℕ) (numbers : Li
   pub exact : (p : ℕ) → Has numbers p ↔ ((p < s.pairs) × (s.reads p g ≡ true))
 
 -- how many rows there are in all
-abbrev pub row_count : {T X : Type 0} → Relations T X → T → ℕ
-row_count s tables = sum_below s.families (λ k. length (s.rows tables k))
+abbrev pub rows_in_all : {T X : Type 0} → Relations T X → T → ℕ
+rows_in_all s tables = sum_below s.families (λ k. length (s.rows tables k))
 
 -- valid tables with no more rows than there may be
-pub record HasRoom {T X : Type 0} (s : Relations T X) (tables : T) : Type 0 where
+pub record AreWithinLimit {T X : Type 0} (s : Relations T X) (tables : T) : Type 0 where
   pub valid : s.valid tables
-  pub few : row_count s tables ≤ s.most
+  pub few : rows_in_all s tables ≤ s.most
 
 -- valid closed tables with the rows of the start, which lie within all such tables
-pub record IsLeast {T X : Type 0} (s : Relations T X) (start tables : T) : Type 0 where
-  pub room : HasRoom s tables
-  pub begins : HaveRowsOf s start tables
-  pub closed : IsClosed s tables
-  pub least : (others : T) → s.valid others → IsClosed s others →
-      HaveRowsOf s start others → HaveRowsOf s tables others
+pub record AreLeastAbove {T X : Type 0} (s : Relations T X) (start tables : T) : Type 0 where
+  pub room : AreWithinLimit s tables
+  pub begins : RowsAreAmong s start tables
+  pub closed : HaveAllResults s tables
+  pub least : (others : T) → s.valid others → HaveAllResults s others →
+      RowsAreAmong s start others → RowsAreAmong s tables others
 
 -- all valid closed tables with the rows of the start have more rows than there may be
-abbrev pub PassesLimit : {T X : Type 0} → Relations T X → T → Type 0
-PassesLimit {T} s start =
-    (others : T) → s.valid others → IsClosed s others → HaveRowsOf s start others → s.most < row_count s others
+abbrev pub IsLimitPassed : {T X : Type 0} → Relations T X → T → Type 0
+IsLimitPassed {T} s start =
+    (others : T) → s.valid others → HaveAllResults s others → RowsAreAmong s start others → s.most < rows_in_all s others

@@ -17,13 +17,13 @@ pub(crate) struct Agenda {
 
 impl Model for Agenda {
     ghost use Rattle.std.specs.Prelude.{length};
-    ghost use Rattle.kasa_worklist.specs.Agenda.{Listed, Agree};
+    ghost use Rattle.kasa_worklist.specs.Agenda.{Waiting, MarksAgree};
 
-    ghost Value = { Listed };
+    ghost Value = { Waiting };
 
     ghost view = { λ a. record { numbers = a.queue.items; size = length a.on.items } };
 
-    ghost invariant = { λ a. Agree a.queue.items a.on.items };
+    ghost invariant = { λ a. MarksAgree a.queue.items a.on.items };
 }
 
 impl Agenda {

@@ -2,7 +2,7 @@
 ghost use Rattle.std.specs.Prelude.{◌≡◌, ◌≤◌, ◌<◌, ◌+◌, Err, true, false, [], IfOk};
 ghost use Rattle.kasa_worklist.specs.declared.fault.SolveFault.TheVariants.{TooManyRows as too_many_rows};
 ghost use Rattle.kasa_worklist.specs.Counts.{read_count};
-ghost use Rattle.kasa_worklist.specs.System.{AreLawful, HasRoom, IsLeast, PassesLimit};
+ghost use Rattle.kasa_worklist.specs.System.{AreLawful, AreWithinLimit, AreLeastAbove, IsLimitPassed};
 ghost use Rattle.kasa_worklist.specs.Turn.{IsTurn, Applies};
 
 use crate::agenda::Agenda;
@@ -23,10 +23,10 @@ pub fn close<S: System, L: Ledger>(
     steps: &mut Steps<L>,
 ) -> Result<(), SolveFault>
     requires lawful { AreLawful (S.relations system.now) }
-    requires room { HasRoom (S.relations system.now) tables.old }
-    ensures least { IfOk result (λ _. IsLeast (S.relations system.now) tables.old tables.new) }
-    ensures few { IfOk result (λ _. ¬ PassesLimit (S.relations system.now) tables.old) }
-    ensures too_many { result ≡ Err too_many_rows → PassesLimit (S.relations system.now) tables.old }
+    requires room { AreWithinLimit (S.relations system.now) tables.old }
+    ensures least { IfOk result (λ _. AreLeastAbove (S.relations system.now) tables.old tables.new) }
+    ensures few { IfOk result (λ _. ¬ IsLimitPassed (S.relations system.now) tables.old) }
+    ensures too_many { result ≡ Err too_many_rows → IsLimitPassed (S.relations system.now) tables.old }
     ensures at_least { IfOk result (λ _. steps.old + (S.relations system.now).pairs ≤ steps.new) }
     ensures at_most { IfOk result (λ _. steps.new ≤ steps.old + (S.relations system.now).pairs
         + read_count (S.relations system.now) tables.new) }
@@ -45,7 +45,7 @@ fn turn<S: System, L: Ledger>(
     steps: &mut Steps<L>,
 ) -> Result<bool, SolveFault>
     requires lawful { AreLawful (S.relations system.now) }
-    requires room { HasRoom (S.relations system.now) tables.old }
+    requires room { AreWithinLimit (S.relations system.now) tables.old }
     requires agenda { agenda.old.size ≡ (S.relations system.now).pairs }
     ensures agenda { IfOk result (λ _. agenda.new.size ≡ (S.relations system.now).pairs) }
     ensures turn { IfOk result (λ more. more ≡ true →
@@ -56,7 +56,7 @@ fn turn<S: System, L: Ledger>(
     ensures tables { IfOk result (λ more. more ≡ false → tables.new ≡ tables.old) }
     ensures agenda_stays { IfOk result (λ more. more ≡ false → agenda.new ≡ agenda.old) }
     ensures steps { IfOk result (λ more. more ≡ false → steps.new ≡ steps.old) }
-    ensures too_many { result ≡ Err too_many_rows → PassesLimit (S.relations system.now) tables.old }
+    ensures too_many { result ≡ Err too_many_rows → IsLimitPassed (S.relations system.now) tables.old }
 {
     let Some(pair) = agenda.take() else {
         return Ok(false);
@@ -76,11 +76,11 @@ fn apply<S: System, L: Ledger>(
     steps: &mut Steps<L>,
 ) -> Result<bool, SolveFault>
     requires pair { pair < (S.relations system.now).pairs }
-    requires room { HasRoom (S.relations system.now) tables.old }
+    requires room { AreWithinLimit (S.relations system.now) tables.old }
     ensures step { steps.new ≡ steps.old + 1 }
     ensures applies { IfOk result (λ grew.
         Applies (S.relations system.now) pair tables.old tables.new grew) }
-    ensures too_many { result ≡ Err too_many_rows → PassesLimit (S.relations system.now) tables.old }
+    ensures too_many { result ≡ Err too_many_rows → IsLimitPassed (S.relations system.now) tables.old }
 {
     system.apply(alloc, tables, pair, steps)
 }

@@ -1,7 +1,7 @@
 // A system of pairs that yield rows.
 ghost use Rattle.std.specs.Prelude.{◌≡◌, ◌<◌, ◌+◌, Err, IfOk};
 ghost use Rattle.kasa_worklist.specs.declared.fault.SolveFault.TheVariants.{TooManyRows as too_many_rows};
-ghost use Rattle.kasa_worklist.specs.System.{Relations, AreReaders, HasRoom, PassesLimit};
+ghost use Rattle.kasa_worklist.specs.System.{Relations, AreReaders, AreWithinLimit, IsLimitPassed};
 ghost use Rattle.kasa_worklist.specs.Turn.{Applies};
 
 use crate::fault::SolveFault;
@@ -37,10 +37,10 @@ pub trait System {
         steps: &mut Steps<L>,
     ) -> Result<bool, SolveFault>
         requires pair { pair < (relations self.now).pairs }
-        requires room { HasRoom (relations self.now) tables.old }
+        requires room { AreWithinLimit (relations self.now) tables.old }
         ensures step { steps.new ≡ steps.old + 1 }
         ensures applies { IfOk result (λ grew.
             Applies (relations self.now) pair tables.old tables.new grew) }
         ensures too_many { result ≡ Err too_many_rows →
-            PassesLimit (relations self.now) tables.old };
+            IsLimitPassed (relations self.now) tables.old };
 }

@@ -1,5 +1,5 @@
 use Rattle.std.proofs.Common.{arith}
-use Rattle.kasa_worklist.proofs.TurnLemmas.{Grows-then, IsClosed-settled, IsLeast-closed, not_passed}
+use Rattle.kasa_worklist.proofs.TurnLemmas.{Grows-then, all_results_held, are_least, not_passed}
 use Rattle.kasa_worklist.proofs.closing.close.Goals as goal
 
 pub loop-agenda-preserved : goal.loop-agenda-preserved
@@ -18,10 +18,10 @@ loop-agenda-preserved g c =
 
 pub returns-clause-least : goal.returns-clause-least
 returns-clause-least g c =
-    let closed = IsClosed-settled (g.S.System.relations c.args.system.now) c.loop-agenda.tables (rw (c.in_ok-turn.ensures.done c.if-branch.false) at c.loop-agenda.invariant.settled) in
-    rw (c.in_ok-turn.ensures.tables c.if-branch.false) (IsLeast-closed (g.S.System.relations c.args.system.now) c.args.tables.now c.loop-agenda.tables c.loop-agenda.invariant.grows closed)
+    let closed = all_results_held (g.S.System.relations c.args.system.now) c.loop-agenda.tables (rw (c.in_ok-turn.ensures.done c.if-branch.false) at c.loop-agenda.invariant.settled) in
+    rw (c.in_ok-turn.ensures.tables c.if-branch.false) (are_least (g.S.System.relations c.args.system.now) c.args.tables.now c.loop-agenda.tables c.loop-agenda.invariant.grows closed)
 
 pub returns-clause-few : goal.returns-clause-few
 returns-clause-few g c =
-    let closed = IsClosed-settled (g.S.System.relations c.args.system.now) c.loop-agenda.tables (rw (c.in_ok-turn.ensures.done c.if-branch.false) at c.loop-agenda.invariant.settled) in
+    let closed = all_results_held (g.S.System.relations c.args.system.now) c.loop-agenda.tables (rw (c.in_ok-turn.ensures.done c.if-branch.false) at c.loop-agenda.invariant.settled) in
     not_passed (g.S.System.relations c.args.system.now) c.args.tables.now c.loop-agenda.tables c.loop-agenda.invariant.grows closed
