@@ -5,3 +5,4 @@ pub mod StepLemmas
 pub mod SettledLemmas
 pub mod LoopLemmas
 pub mod SolveLemmas
+pub mod ReadLemmas

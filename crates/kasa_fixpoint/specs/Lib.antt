@@ -1,3 +1,4 @@
 pub mod Limit
 pub mod Growing
 pub mod Steps
+pub mod Reads

@@ -3,6 +3,7 @@
 
 mod fault;
 mod growing;
+pub mod laws;
 mod rounds;
 
 pub use fault::SolveFault;
