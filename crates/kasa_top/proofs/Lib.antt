@@ -11,3 +11,4 @@ pub mod ViewOrder
 pub mod MentionLemmas
 pub mod SiteSetLemmas
 pub mod PlanLemmas
+pub mod OneOutcome

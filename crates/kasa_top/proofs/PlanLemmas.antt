@@ -16,7 +16,7 @@ use Rattle.kasa_families.specs.Family.{IsFamily}
 use Rattle.kasa_views.specs.View.{IsView}
 use Rattle.kasa_top.specs.Plan.{IsSiteSet, IsViewOf, IsPlanned, PrecedesList, Precedes, AreInOrder, IsViewPlan, PlansMore}
 use Rattle.kasa_top.specs.ViewSets.{IsInNoLarger, IsViewFamily, view_family, view_families}
-use Rattle.kasa_top.proofs.PlanLists.{less_or, same_at, Has-head, length-different}
+use Rattle.kasa_top.proofs.PlanLists.{less_or, same_at, Has-head}
 use Rattle.kasa_top.proofs.SiteSetLemmas.{set_within, set_ascends, set_few}
 use Rattle.kasa_top.proofs.ViewOrder.{view_cmp, has_inserted, inserted_has_old, inserted_has_new}
 
@@ -226,9 +226,6 @@ AllDifferent-ordered fs ordered i j f at_i at_j = by (below_or i j)
     by (inr (zero, e)) = omega arith
     by (inr (suc k, e)) = let less : j < i = omega arith in absurd (never_itself f (ordered j i f f less at_j at_i))
 
--- any other plan has as many views
+-- a plan that is longer is one
 pub PlansMore-plan : (model : Model) (most : ℕ) (families : List Family) → IsViewPlan model families → most < length families → PlansMore most model
-PlansMore-plan model most families plan more others other =
-    let fewer : length families ≤ length others =
-    length-different families others (AllDifferent-ordered families plan.ordered) (λ f h. (other.exact f).1 ((plan.exact f).0 h)) in
-    omega arith
+PlansMore-plan model most families plan more = (families, plan, more)

@@ -95,6 +95,6 @@ pub record IsViewPlan (model : Model) (families : List Family) : Type 0 where
   pub ordered : AreInOrder families
   pub exact : (f : Family) → Has families f ↔ IsPlanned model f
 
--- the plan has more than so many views
+-- there is a plan, and it has more than so many views
 abbrev pub PlansMore : ℕ → Model → Type 0
-PlansMore most model = (families : List Family) → IsViewPlan model families → most < length families
+PlansMore most model = (families : List Family) × IsViewPlan model families × (most < length families)

@@ -1,0 +1,340 @@
+-- For given words and held texts one status and one text are due.
+use Rattle.std.proofs.Common.{◌≡◌, ℕ, suc, ◌<◌, ◌≤◌, ◌⊎◌, inl, inr, List, [], ◌∷◌, length, refl, sym, ap, subst, ◌∙◌, arith}
+use Rattle.std.specs.Prelude.{Option, Some, None, Ok, Err, slice_get, ◌↔◌, ⊤}
+use Rattle.std.proofs.lemmas.Option.{slice_get-map}
+use Rattle.std.proofs.lemmas.List.{length-map}
+use Rattle.kasa_lists.specs.Lists.{Has, AllDifferent}
+use Rattle.kasa_lists.proofs.Elements.{same_elements}
+use Rattle.kasa_lists.proofs.Having.{Has-[], Has-head, Has-later, Has-cons}
+use Rattle.kasa_graph.specs.Signature.{TypeEntry}
+use Rattle.kasa_families.specs.declared.family.Family.{Family}
+use Rattle.kasa_families.specs.declared.family.Family.TheVariants.{View, Across, Parallel, Chain}
+use Rattle.kasa_families.specs.declared.row.Row.{Row}
+use Rattle.kasa_families.specs.Row.{IsRowBelow, AreAscending}
+use Rattle.kasa_families.specs.Table.{Table, families_of, AreTables, Holds, IsWithin}
+use Rattle.kasa_families.proofs.RowOrder.{IsRowBelow-trans, IsRowBelow-strict}
+use Rattle.kasa_tables.specs.Insert.{row_count}
+use Rattle.kasa_rules.specs.declared.model.Model.{Model}
+use Rattle.kasa_pre.specs.Closed.{IsLeast}
+use Rattle.kasa_compile.specs.declared.fault.ModelFault.{ModelFault}
+use Rattle.kasa_compile.specs.Model.{IsModelOf, IsFaultOf}
+use Rattle.kasa_compile.proofs.OneOutcome.{one_outcome}
+use Rattle.kasa_top.specs.declared.status.Status.{Status}
+use Rattle.kasa_top.specs.declared.status.Status.TheVariants.{Done, BadWords, BadModel, TooLong, TooManyRows, TooManyFamilies, ReadFault, WriteFault, NoMemory}
+use Rattle.kasa_top.specs.Status.{status_text}
+use Rattle.kasa_top.specs.Words.{IsAnalyse}
+use Rattle.kasa_top.specs.Plan.{PrecedesList, Precedes, IsViewPlan}
+use Rattle.kasa_top.specs.LemmasText.{lemmas_text, IsLemmasText}
+use Rattle.kasa_top.specs.Outcome.{Plans, IsReportOf, IsTooLong, HasFault, HasTooManyFamilies, HasTooManyRows, Fetches, FetchFails, IsOutcome}
+
+-- ---- lists in an order that have the same elements
+
+module _ {X : Type 0} (Below : X → X → Type 0) (asym : (x y : X) → Below x y → Below y x → ⊥) where
+  -- each is below all that stand behind it
+  abbrev pub AreBelow : List X → Type 0
+  AreBelow [] = ⊤
+  AreBelow (x ∷ xs) = ((y : X) → Has xs y → Below x y) × AreBelow xs
+
+  pub AreBelow-numbered : (xs : List X) → ((i j : ℕ) (x y : X) → i < j → slice_get xs i ≡ Some x → slice_get xs j ≡ Some y → Below x y) → AreBelow xs
+  AreBelow-numbered [] below = tt
+  AreBelow-numbered (x ∷ xs) below = (
+    λ y (k, at). below 0 (suc k) x y (omega arith) refl at,
+    AreBelow-numbered xs (λ i j a b less at to. below (suc i) (suc j) a b (omega arith) at to),
+  )
+
+  pub ordered_same : (xs ys : List X) → AreBelow xs → AreBelow ys → ((x : X) → Has xs x ↔ Has ys x) → xs ≡ ys
+  ordered_same [] [] o p same = refl
+  ordered_same [] (y ∷ ys) o p same = absurd (Has-[] y ((same y).1 (Has-head y ys)))
+  ordered_same (x ∷ xs) [] o p same = absurd (Has-[] x ((same x).0 (Has-head x xs)))
+  ordered_same (x ∷ xs) (y ∷ ys) o p same = let rest : xs ≡ ys = ordered_same xs ys o.1 p.1 (λ s. (there s, back s)) in rw (first, rest) refl
+    where
+      heads : (x ≡ y) ⊎ Has ys x → (y ≡ x) ⊎ Has xs y → x ≡ y
+      heads (inl e) b = e
+      heads (inr h) (inl e) = sym e
+      heads (inr h) (inr k) = absurd (asym x y (o.0 y k) (p.0 x h))
+
+      first : x ≡ y
+      first = heads (Has-cons y ys x ((same x).0 (Has-head x xs))) (Has-cons x xs y ((same y).1 (Has-head y ys)))
+
+      not_first : (z s : X) → Below z s → z ≡ s → ⊥
+      not_first z s below e = let itself : Below z z = subst (λ t. Below z t) (sym e) below in asym z z itself itself
+
+      there : (s : X) → Has xs s → Has ys s
+      there s h = elim (Has-cons y ys s ((same s).0 (Has-later x xs s h))) [
+        | inl is ↦ absurd (not_first x s (o.0 s h) (first ∙ sym is))
+        | inr more ↦ more
+      ]
+
+      back : (s : X) → Has ys s → Has xs s
+      back s h = elim (Has-cons x xs s ((same s).1 (Has-later y ys s h))) [
+        | inl is ↦ absurd (not_first y s (p.0 s h) (sym first ∙ sym is))
+        | inr more ↦ more
+      ]
+
+-- ---- one plan
+
+lists_asym : (xs ys : List ℕ) → PrecedesList xs ys → PrecedesList ys xs → ⊥
+lists_asym [] [] p q = p
+lists_asym [] (y ∷ ys) p q = q
+lists_asym (x ∷ xs) [] p q = p
+lists_asym (x ∷ xs) (y ∷ ys) (inl a) (inl b) = omega arith
+lists_asym (x ∷ xs) (y ∷ ys) (inl a) (inr b) = let e = b.0 in omega arith
+lists_asym (x ∷ xs) (y ∷ ys) (inr a) (inl b) = let e = a.0 in omega arith
+lists_asym (x ∷ xs) (y ∷ ys) (inr a) (inr b) = lists_asym xs ys a.1 b.1
+
+Precedes-asym : (f g : Family) → Precedes f g → Precedes g f → ⊥
+Precedes-asym (View a s) (View b t) (inl p) (inl q) = omega arith
+Precedes-asym (View a s) (View b t) (inl p) (inr q) = let e = q.0 in omega arith
+Precedes-asym (View a s) (View b t) (inr p) (inl q) = let e = p.0 in omega arith
+Precedes-asym (View a s) (View b t) (inr p) (inr q) = lists_asym s t p.1 q.1
+Precedes-asym (View a s) (Across b x p c y q) h k = h
+Precedes-asym (View a s) (Parallel b x u c y w) h k = h
+Precedes-asym (View a s) (Chain b x p c y z d w q) h k = h
+Precedes-asym (Across a x p b y q) g h k = h
+Precedes-asym (Parallel a x u b y w) g h k = h
+Precedes-asym (Chain a x p b y z c w q) g h k = h
+
+-- a model has one plan at most
+pub one_plan : (model : Model) (families others : List Family) → IsViewPlan model families → IsViewPlan model others → families ≡ others
+one_plan model families others plan other =
+    ordered_same Precedes Precedes-asym families others
+    (AreBelow-numbered Precedes Precedes-asym families plan.ordered)
+    (AreBelow-numbered Precedes Precedes-asym others other.ordered)
+    (λ f. (λ h. (other.exact f).1 ((plan.exact f).0 h), λ h. (plan.exact f).1 ((other.exact f).0 h)))
+
+-- ---- one text of tables
+
+rows_asym : (row next : Row) → IsRowBelow row next → IsRowBelow next row → ⊥
+rows_asym row next p q = IsRowBelow-strict row (IsRowBelow-trans row next row p q)
+
+AreBelow-ascending : (rows : List Row) → AreAscending rows → AreBelow IsRowBelow rows_asym rows
+AreBelow-ascending [] up = tt
+AreBelow-ascending (row ∷ []) up = (λ y h. absurd (Has-[] y h), tt)
+AreBelow-ascending (row ∷ next ∷ rows) up = (
+  λ y h. elim (Has-cons next rows y h) [
+    | inl is ↦ subst (λ z. IsRowBelow row z) (sym is) up.0
+    | inr more ↦ IsRowBelow-trans row next y up.0 ((AreBelow-ascending (next ∷ rows) up.1).0 y more)
+  ],
+  AreBelow-ascending (next ∷ rows) up.1,
+)
+
+module _ (first second : List Table) (same : (family : Family) (row : Row) → Holds first family row → Holds second family row) (different : AllDifferent (families_of second)) where
+  -- where tables hold the same, a row of one table stands in the other's at its number
+  row_there : (i : ℕ) (t u : Table) → slice_get first i ≡ Some t → slice_get second i ≡ Some u → t.family ≡ u.family → (row : Row) → Has t.rows row → Has u.rows row
+  row_there i t u at to e row h =
+      let held : Holds second t.family row = same t.family row (record { table = t; among = (i, at); of_family = refl; has_row = h }) in
+      let j = held.among.0 in
+      let there : slice_get (families_of second) j ≡ Some u.family = slice_get-map (λ (x : Table). x.family) second j ∙ rw held.among.1 (ap Some (held.of_family ∙ e)) in
+      let here : slice_get (families_of second) i ≡ Some u.family = slice_get-map (λ (x : Table). x.family) second i ∙ rw to refl in
+      let one : j ≡ i = different j i u.family there here in
+      let table : held.table ≡ u = (let at_i : slice_get second i ≡ Some held.table = subst (λ (k : ℕ). slice_get second k ≡ Some held.table) one held.among.1 in cc) in
+      subst (λ (x : Table). Has x.rows row) table held.has_row
+
+-- two lists of tables in order that hold the same
+ordered_tables : (first second : List Table) → AllDifferent (families_of first) → families_of first ≡ families_of second → ((t : Table) → Has first t → AreAscending t.rows) → ((t : Table) → Has second t → AreAscending t.rows) →
+    ((family : Family) (row : Row) → Holds first family row ↔ Holds second family row) → first ≡ second
+ordered_tables first second different e up too same =
+    same_elements first second
+    (sym (length-map first (λ (x : Table). x.family)) ∙ ap length e ∙ length-map second (λ (x : Table). x.family))
+    (λ i t u at to. let family = families i t u at to in let rows = rows_at i t u at to in λ k. record { family = family k; rows = rows k })
+  where
+    families : (i : ℕ) (t u : Table) → slice_get first i ≡ Some t → slice_get second i ≡ Some u → t.family ≡ u.family
+    families i t u at to =
+        let here : slice_get (families_of first) i ≡ Some t.family = slice_get-map (λ (x : Table). x.family) first i ∙ rw at refl in
+        let there : slice_get (families_of second) i ≡ Some u.family = slice_get-map (λ (x : Table). x.family) second i ∙ rw to refl in
+        let both : slice_get (families_of first) i ≡ slice_get (families_of second) i = ap (λ (xs : List Family). slice_get xs i) e in
+        cc
+
+    rows_at : (i : ℕ) (t u : Table) → slice_get first i ≡ Some t → slice_get second i ≡ Some u → t.rows ≡ u.rows
+    rows_at i t u at to =
+        ordered_same IsRowBelow rows_asym t.rows u.rows
+        (AreBelow-ascending t.rows (up t (i, at)))
+        (AreBelow-ascending u.rows (too u (i, to)))
+        (λ row. (
+          row_there first second (λ family r. (same family r).0) (subst AllDifferent e different) i t u at to (families i t u at to) row,
+          row_there second first (λ family r. (same family r).1) different i u t to at (sym (families i t u at to)) row,
+        ))
+
+-- tables that hold the same have one text
+one_lemmas_text : (sig : List TypeEntry) (tables others : List Table) (a b : List ℕ) → AllDifferent (families_of tables) → families_of tables ≡ families_of others → IsWithin tables others → IsWithin others tables →
+    IsLemmasText sig tables a → IsLemmasText sig others b → a ≡ b
+one_lemmas_text sig tables others a b different e there back p q =
+    let o = p.are_ordered in
+    let r = q.are_ordered in
+    let same : p.ordered ≡ q.ordered =
+      ordered_tables p.ordered q.ordered
+      (subst AllDifferent (sym o.families) different)
+      (o.families ∙ e ∙ sym r.families)
+      o.ascend r.ascend
+      (λ family row. (
+        λ h. (r.rows family row).1 (there family row ((o.rows family row).0 h)),
+        λ h. (o.rows family row).1 (back family row ((r.rows family row).0 h)),
+      )) in
+    p.printed ∙ ap (lemmas_text sig) same ∙ sym q.printed
+
+-- ---- one model, one report
+
+one_model : (text : List ℕ) (model other : Model) → IsModelOf text model → IsModelOf text other → model ≡ other
+one_model text model other p q = let e : Ok model ≡ Ok other = one_outcome text (Ok model) (Ok other) p q in cc
+
+one_fault : (text : List ℕ) (f g : ModelFault) → IsFaultOf text f → IsFaultOf text g → f ≡ g
+one_fault text f g p q = let e : Err f ≡ Err g = one_outcome text (Err f) (Err g) p q in cc
+
+no_fault : (text : List ℕ) (model : Model) (f : ModelFault) → IsModelOf text model → IsFaultOf text f → ⊥
+no_fault text model f p q = let e : Ok model ≡ Err f = one_outcome text (Ok model) (Err f) p q in cc
+
+-- the planned views of the same text are the same
+same_plans : (text : List ℕ) (model other : Model) (families others : List Family) → Plans text model families → Plans text other others → (model ≡ other) × (families ≡ others)
+same_plans text model other families others p q =
+    let e = one_model text model other p.read q.read in
+    (e, one_plan other families others (subst (λ m. IsViewPlan m families) e p.planned) q.planned)
+
+-- the report of a model's text, over its model
+record IsReportOver (text report : List ℕ) (model : Model) : Type 0 where
+  tables : List Table
+  plans : Plans text model (families_of tables)
+  valid : AreTables model.sig tables
+  least : IsLeast model tables
+  printed : IsLemmasText model.sig tables report
+
+over : (text report : List ℕ) (r : IsReportOf text report) → IsReportOver text report r.model
+over text report r = record { tables = r.tables; plans = r.plans; valid = r.valid; least = r.least; printed = r.printed }
+
+same_report : (text a b : List ℕ) (model : Model) → IsReportOver text a model → IsReportOver text b model → a ≡ b
+same_report text a b model p q =
+    let e = (same_plans text model model (families_of p.tables) (families_of q.tables) p.plans q.plans).1 in
+    one_lemmas_text model.sig p.tables q.tables a b p.valid.different e
+    (p.least.least q.tables q.valid (sym e) q.least.closed)
+    (q.least.least p.tables p.valid e p.least.closed)
+    p.printed q.printed
+
+one_report : (text a b : List ℕ) → IsReportOf text a → IsReportOf text b → a ≡ b
+one_report text a b p q = same_report text a b q.model (subst (IsReportOver text a) (one_model text p.model q.model p.plans.read q.plans.read) (over text a p)) (over text b q)
+
+-- a report's tables are within the limit that the planned views would pass
+no_report : (text a : List ℕ) → HasTooManyRows text → IsReportOf text a → ⊥
+no_report text a (model, families, plans, passes) r =
+    let e = same_plans text r.model model (families_of r.tables) families r.plans plans in
+    let few = r.few_rows in
+    let more : 200000 < row_count r.tables =
+      passes r.tables (subst (λ (m : Model). AreTables m.sig r.tables) e.0 r.valid) e.1 (subst (λ m. IsLeast m r.tables) e.0 r.least).closed in
+    omega arith
+
+-- few views are planned where not too many are
+no_plans : (text : List ℕ) (model : Model) (families : List Family) → HasTooManyFamilies text → Plans text model families → ⊥
+no_plans text model families (short, (other, read, (others, longer, more))) plans =
+    let e = one_model text other model read plans.read in
+    let few = plans.few in
+    let same : others ≡ families = one_plan other others families longer (subst (λ m. IsViewPlan m families) (sym e) plans.planned) in
+    let many : 8000 < length families = subst (λ (fs : List Family). 8000 < length fs) same more in
+    omega arith
+
+-- ---- one status, question by question
+
+module _ (words : List (List ℕ)) (texts : List ℕ → Option (List ℕ)) where
+  -- the status has a text of its own
+  abbrev Refuses : Status → Status → List ℕ → Type 0
+  Refuses cause s a = (s ≡ cause) × (a ≡ status_text cause)
+
+  abbrev Solved : List ℕ → Status → List ℕ → Type 0
+  Solved text s a = (Refuses TooManyRows s a × HasTooManyRows text) ⊎ ((s ≡ Done) × IsReportOf text a)
+
+  abbrev Planned : List ℕ → Status → List ℕ → Type 0
+  Planned text s a = (Refuses TooManyFamilies s a × HasTooManyFamilies text) ⊎ Solved text s a
+
+  abbrev Compiled : List ℕ → Status → List ℕ → Type 0
+  Compiled text s a = ((f : ModelFault) × Refuses (BadModel f) s a × HasFault f text) ⊎ Planned text s a
+
+  abbrev Measured : List ℕ → Status → List ℕ → Type 0
+  Measured text s a = (Refuses TooLong s a × IsTooLong text) ⊎ Compiled text s a
+
+  abbrev Fetched : List ℕ → Status → List ℕ → Type 0
+  Fetched name s a = (Refuses ReadFault s a × (texts name ≡ None)) ⊎ ((text : List ℕ) × (texts name ≡ Some text) × Measured text s a)
+
+  abbrev Asked : Status → List ℕ → Type 0
+  Asked s a = (Refuses BadWords s a × ((name : List ℕ) → ¬ IsAnalyse words name)) ⊎ ((name : List ℕ) × IsAnalyse words name × Fetched name s a)
+
+  fetched : (P : List ℕ → Type 0) (s : Status) (a : List ℕ) → Fetches words (Some texts) P → ((text : List ℕ) → P text → Measured text s a) → Asked s a
+  fetched P s a f next = inr (f.name, f.command, inr (f.text, held f.is_held, next f.text f.is_such))
+    where
+      held : (Some (texts f.name) ≡ None) ⊎ (Some (texts f.name) ≡ Some (Some f.text)) → texts f.name ≡ Some f.text
+      held (inl missing) = absurd cc
+      held (inr is) = cc
+
+  unread : FetchFails words (Some texts) ⊥ → (name : List ℕ) × IsAnalyse words name × (texts name ≡ None)
+  unread f = (f.name, f.command, elim f.cause [ inl counted ↦ absurd counted | inr is ↦ cc ])
+
+  asked : (s : Status) (a : List ℕ) → IsOutcome words (Some texts) ⊥ s a → Asked s a
+  asked Done a due = fetched _ Done a due (λ text is. inr (inr (inr (inr (refl, is)))))
+  asked BadWords a due = inl ((refl, due.1), due.0)
+  asked ReadFault a due = let f = unread due.0 in inr (f.0, f.1, inl ((refl, due.1), f.2))
+  asked TooLong a due = fetched _ TooLong a due.0 (λ text is. inl ((refl, due.1), is))
+  asked (BadModel f) a due = fetched _ (BadModel f) a due.0 (λ text is. inr (inl (f, (refl, due.1), is)))
+  asked TooManyFamilies a due = fetched _ TooManyFamilies a due.0 (λ text is. inr (inr (inl ((refl, due.1), is))))
+  asked TooManyRows a due = fetched _ TooManyRows a due.0 (λ text is. inr (inr (inr (inl ((refl, due.1), is)))))
+  asked WriteFault a due = absurd due
+  asked NoMemory a due = absurd due
+
+  module _ (s t : Status) (a b : List ℕ) where
+    abbrev One : Type 0
+    One = (s ≡ t) × (a ≡ b)
+
+    both : (cause : Status) → Refuses cause s a → Refuses cause t b → One
+    both cause p q = (p.0 ∙ sym q.0, p.1 ∙ sym q.1)
+
+    solved : (text : List ℕ) → Solved text s a → Solved text t b → One
+    solved text (inl p) (inl q) = both TooManyRows p.0 q.0
+    solved text (inl p) (inr q) = absurd (no_report text b p.1 q.1)
+    solved text (inr p) (inl q) = absurd (no_report text a q.1 p.1)
+    solved text (inr p) (inr q) = (p.0 ∙ sym q.0, one_report text a b p.1 q.1)
+
+  plans_of : (text : List ℕ) (s : Status) (a : List ℕ) → Solved text s a → (model : Model) × (families : List Family) × Plans text model families
+  plans_of text s a (inl (_, (model, families, plans, _))) = (model, families, plans)
+  plans_of text s a (inr (_, r)) = (r.model, families_of r.tables, r.plans)
+
+  model_of : (text : List ℕ) (s : Status) (a : List ℕ) → Planned text s a → (model : Model) × (length text ≤ 4194304) × IsModelOf text model
+  model_of text s a (inl (_, (short, (model, read, _)))) = (model, short, read)
+  model_of text s a (inr next) = let p = plans_of text s a next in (p.0, p.2.short, p.2.read)
+
+  short_text : (text : List ℕ) (s : Status) (a : List ℕ) → Compiled text s a → length text ≤ 4194304
+  short_text text s a (inl p) = p.2.0
+  short_text text s a (inr next) = (model_of text s a next).1
+
+  module _ (s t : Status) (a b : List ℕ) where
+    planned : (text : List ℕ) → Planned text s a → Planned text t b → One s t a b
+    planned text (inl p) (inl q) = both s t a b TooManyFamilies p.0 q.0
+    planned text (inl p) (inr q) = let plans = plans_of text t b q in absurd (no_plans text plans.0 plans.1 p.1 plans.2)
+    planned text (inr p) (inl q) = let plans = plans_of text s a p in absurd (no_plans text plans.0 plans.1 q.1 plans.2)
+    planned text (inr p) (inr q) = solved s t a b text p q
+
+    compiled : (text : List ℕ) → Compiled text s a → Compiled text t b → One s t a b
+    compiled text (inl (f, p, has)) (inl (g, q, other)) = both s t a b (BadModel f) p (subst (λ h. Refuses (BadModel h) t b) (one_fault text g f other.1 has.1) q)
+    compiled text (inl (f, p, has)) (inr q) = let m = model_of text t b q in absurd (no_fault text m.0 f m.2 has.1)
+    compiled text (inr p) (inl (g, q, has)) = let m = model_of text s a p in absurd (no_fault text m.0 g m.2 has.1)
+    compiled text (inr p) (inr q) = planned text p q
+
+    measured : (text : List ℕ) → Measured text s a → Measured text t b → One s t a b
+    measured text (inl p) (inl q) = both s t a b TooLong p.0 q.0
+    measured text (inl p) (inr q) = let long = p.1 in let few = short_text text t b q in absurd (omega arith)
+    measured text (inr p) (inl q) = let long = q.1 in let few = short_text text s a p in absurd (omega arith)
+    measured text (inr p) (inr q) = compiled text p q
+
+    read : (name : List ℕ) → Fetched name s a → Fetched name t b → One s t a b
+    read name (inl p) (inl q) = both s t a b ReadFault p.0 q.0
+    read name (inl p) (inr q) = let none = p.1 in let some = q.1 in absurd cc
+    read name (inr p) (inl q) = let none = q.1 in let some = p.1 in absurd cc
+    read name (inr (text, is, p)) (inr (other, so, q)) = let e : other ≡ text = cc in measured text p (subst (λ x. Measured x t b) e q)
+
+    one_asked : Asked s a → Asked t b → One s t a b
+    one_asked (inl p) (inl q) = both s t a b BadWords p.0 q.0
+    one_asked (inl p) (inr q) = absurd (p.1 q.0 q.1)
+    one_asked (inr p) (inl q) = absurd (q.1 p.0 p.1)
+    one_asked (inr (name, is, p)) (inr (other, so, q)) =
+        let one = is.words_are in
+        let two = so.words_are in
+        let e : other ≡ name = cc in
+        read name p (subst (λ x. Fetched x t b) e q)
+
+-- for given words and held texts, where no fault is counted, one status and one text are due
+pub one_due : (words : List (List ℕ)) (texts : List ℕ → Option (List ℕ)) (s t : Status) (a b : List ℕ) → IsOutcome words (Some texts) ⊥ s a → IsOutcome words (Some texts) ⊥ t b → (s ≡ t) × (a ≡ b)
+one_due words texts s t a b p q = one_asked words texts s t a b (asked words texts s a p) (asked words texts t b q)
