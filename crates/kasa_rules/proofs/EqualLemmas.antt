@@ -82,6 +82,6 @@ same_rule r q =
 pub same_model : (m k : ModelParts) → Decides ((model.ghosts).eq m k) (m ≡ k)
 same_model m k =
     told ((model.ghosts).eq m k)
-    (Decides-and _ _ (same_signature m.sig k.sig) (Decides-and _ _ (pointwise_decides same_mixture m.inits k.inits) (pointwise_decides same_rule m.rules k.rules)))
-    (λ e. λ i. record { sig = e.0 i; inits = e.1.0 i; rules = e.1.1 i })
-    (λ e. (ap (λ (m : ModelParts). m.sig) e, (ap (λ (m : ModelParts). m.inits) e, ap (λ (m : ModelParts). m.rules) e)))
+    (Decides-and _ _ (same_signature m.sig k.sig) (Decides-and _ _ (pointwise_decides same_mixture m.inits k.inits) (Decides-and _ _ (pointwise_decides Decides-eqb m.added k.added) (pointwise_decides same_rule m.rules k.rules))))
+    (λ e. λ i. record { sig = e.0 i; inits = e.1.0 i; added = e.1.1.0 i; rules = e.1.1.1 i })
+    (λ e. (ap (λ (m : ModelParts). m.sig) e, (ap (λ (m : ModelParts). m.inits) e, (ap (λ (m : ModelParts). m.added) e, ap (λ (m : ModelParts). m.rules) e))))

@@ -7,7 +7,7 @@ mod model;
 mod rule;
 
 pub use draft::RuleDraft;
-pub use model::{Inits, Model, Rules};
+pub use model::{Added, Inits, Model, Rules};
 pub use rule::{
     End, Fate, MadeAgent, MadeSite, MadeSites, NodeAction, Rule, SiteAction, SiteActions, Written,
     touched, touched_at,
