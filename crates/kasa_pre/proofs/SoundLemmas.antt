@@ -1,39 +1,22 @@
 -- Closed tables cover each mixture that a model reaches.
-use Rattle.std.proofs.Common.{◌≡◌, ℕ, inl, inr, List, [], ◌∷◌, refl}
+use Rattle.std.proofs.Common.{◌≡◌, ℕ, suc, List, [], ◌∷◌, refl}
 use Rattle.std.specs.Prelude.{Option, Some, None, slice_get}
 use Rattle.std.specs.Option.{option_map_or}
 use Rattle.kasa_graph.specs.declared.mixture.Agent.{Agent}
-use Rattle.kasa_graph.specs.Signature.{TypeEntry}
-use Rattle.kasa_graph.specs.Mixture.{IsMixtureOver, beside}
-use Rattle.kasa_families.specs.Pattern.{row_pattern}
+use Rattle.kasa_graph.specs.Mixture.{IsMixtureOver}
 use Rattle.kasa_families.specs.Table.{Table, AreTables}
-use Rattle.kasa_graph.proofs.JoinedLemmas.{IsEmbedding-beside}
-use Rattle.kasa_families.proofs.RowPattern.{IsJoined-row_pattern, Occurs-[]}
-use Rattle.kasa_families.proofs.TableLemmas.{IsFamily-of_tables}
 use Rattle.kasa_rules.specs.declared.model.Model.{Model}
 use Rattle.kasa_rules.specs.Reached.{Event, Run, copies_of, Reached, IsModel}
 use Rattle.kasa_pre.specs.Closed.{Cover, IsClosed}
 use Rattle.kasa_rules.proofs.ReachedLemmas.{init_valid, IsMixtureOver-copies, IsMixtureOver-step}
-use Rattle.kasa_pre.proofs.StepLemmas.{Cover-step}
-
-pub Cover-[] : (sig : List TypeEntry) (tables : List Table) → Cover sig tables []
-Cover-[] sig tables family has row ok occurs = absurd (Occurs-[] sig family row ok occurs)
-
--- ---- side by side
-
-pub Cover-beside : (sig : List TypeEntry) (tables : List Table) (m k : List (Option Agent)) → AreTables sig tables → IsMixtureOver sig m → IsMixtureOver sig k → Cover sig tables m → Cover sig tables k → Cover sig tables (beside m k)
-Cover-beside sig tables m k ok first second cover cover' family has row row_ok occurs =
-    elim (IsEmbedding-beside (row_pattern sig family row) m k occurs.0 occurs.1 first.linked (IsJoined-row_pattern sig family row (IsFamily-of_tables sig tables ok family has) row_ok)) [
-      | inl at ↦ cover family has row row_ok (occurs.0, at)
-      | inr at ↦ cover' family has row row_ok at
-    ]
+use Rattle.kasa_pre.proofs.StepLemmas.{Cover-[], Cover-beside, Cover-declared, Cover-step}
 
 -- ---- reached mixtures
 
 module _ (model : Model) (valid : IsModel model) (tables : List Table) (ok : AreTables model.sig tables) (closed : IsClosed model tables) where
   init_cover : (i : ℕ) (o : Option (List (Option Agent))) → slice_get model.inits i ≡ o → Cover model.sig tables (option_map_or (λ (m : List (Option Agent)). m) o [])
   init_cover i None e = Cover-[] model.sig tables
-  init_cover i (Some m) e = λ family has row row_ok occurs. closed family has row row_ok (inl (i, m, e, occurs))
+  init_cover i (Some m) e = Cover-declared model tables closed (suc i) m e
 
   pub Cover-copies : (copies : List ℕ) → Cover model.sig tables (copies_of model copies)
   Cover-copies [] = Cover-[] model.sig tables

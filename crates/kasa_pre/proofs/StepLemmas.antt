@@ -1,11 +1,12 @@
--- The step of soundness: what occurs after a firing is yielded from tables that cover the mixture before.
-use Rattle.std.proofs.Common.{ℕ, inr, List, ◌++◌, ◌≡◌, refl}
+-- The step of soundness: what occurs after a firing is yielded from tables that cover the mixture before, and what occurs
+-- after an addition occurred before or is initial.
+use Rattle.std.proofs.Common.{ℕ, zero, suc, inl, inr, List, [], ◌++◌, ◌≡◌, refl}
 use Rattle.std.specs.Prelude.{Option, Some, None, MatchOption}
 use Rattle.kasa_graph.specs.declared.pattern.Node.{Node}
 use Rattle.kasa_graph.specs.declared.mixture.Agent.{Agent}
 use Rattle.kasa_graph.specs.Signature.{TypeEntry}
 use Rattle.kasa_graph.specs.Lists.{Has}
-use Rattle.kasa_graph.specs.Mixture.{IsMixtureOver}
+use Rattle.kasa_graph.specs.Mixture.{beside, IsMixtureOver}
 use Rattle.kasa_graph.specs.Embedding.{IsEmbedding}
 use Rattle.kasa_families.specs.declared.family.Family.{Family}
 use Rattle.kasa_families.specs.declared.row.Row.{Row}
@@ -15,8 +16,8 @@ use Rattle.kasa_families.specs.Table.{Table, AreTables, families_of}
 use Rattle.kasa_rules.specs.Rule.{RuleParts, IsRuleOver}
 use Rattle.kasa_rules.specs.Firing.{fire}
 use Rattle.kasa_rules.specs.declared.model.Model.{Model}
-use Rattle.kasa_rules.specs.Reached.{Event, Step, IsModel}
-use Rattle.kasa_rules.specs.Reached.Event.{fires}
+use Rattle.kasa_rules.specs.Reached.{Event, Step, declared_complex, IsModel}
+use Rattle.kasa_rules.specs.Reached.Event.{fires, adds}
 use Rattle.kasa_pre.specs.LiesOn.{cells_before, StoodBefore}
 use Rattle.kasa_pre.specs.Before.{IsBefore, IsMostGeneralBefore}
 use Rattle.kasa_pre.specs.Yields.{YieldsPattern, Yields}
@@ -26,10 +27,13 @@ use Rattle.kasa_pre.specs.declared.Stand.{Stand}
 use Rattle.kasa_pre.specs.declared.FreedBy.{FreedBy}
 use Rattle.kasa_pre.proofs.RootLemmas.{root_extends}
 use Rattle.kasa_pre.proofs.EmbeddingLemmas.{IsEmbedding-general}
+use Rattle.kasa_graph.proofs.JoinedLemmas.{IsEmbedding-beside}
 use Rattle.kasa_graph.proofs.ShapeLemmas.{IsShaped}
 use Rattle.kasa_pre.proofs.RowLemmas.{IsShaped-row_pattern}
 use Rattle.kasa_pre.proofs.StoodBefore.{StoodBefore-some}
+use Rattle.kasa_families.proofs.RowPattern.{IsJoined-row_pattern, Occurs-[]}
 use Rattle.kasa_families.proofs.TableLemmas.{IsFamily-of_tables}
+use Rattle.kasa_rules.proofs.ReachedLemmas.{IsMixtureOver-declared}
 use Rattle.kasa_pre.proofs.CoverLemmas.{IsAllowed-cover}
 
 -- the most general pattern before stood there too
@@ -69,8 +73,27 @@ module _ (sig : List TypeEntry) (tables : List Table) (m : List (Option Agent)) 
   pub Yields-fire : (r : RuleParts) (cells : List ℕ) → IsRuleOver sig r → IsEmbedding r.left m cells → (family : Family) (row : Row) → IsRow sig family row → Occurs sig family row (fire r cells m) → Yields sig tables r family row
   Yields-fire r cells rule at family row valid occurs = YieldsPattern-fire r cells rule at (row_pattern sig family row) (IsShaped-row_pattern sig family row valid) occurs.0 occurs.1
 
+-- ---- side by side
+
+pub Cover-[] : (sig : List TypeEntry) (tables : List Table) → Cover sig tables []
+Cover-[] sig tables family has row ok occurs = absurd (Occurs-[] sig family row ok occurs)
+
+pub Cover-beside : (sig : List TypeEntry) (tables : List Table) (m k : List (Option Agent)) → AreTables sig tables → IsMixtureOver sig m → IsMixtureOver sig k → Cover sig tables m → Cover sig tables k → Cover sig tables (beside m k)
+Cover-beside sig tables m k ok first second cover cover' family has row row_ok occurs =
+    elim (IsEmbedding-beside (row_pattern sig family row) m k occurs.0 occurs.1 first.linked (IsJoined-row_pattern sig family row (IsFamily-of_tables sig tables ok family has) row_ok)) [
+      | inl at ↦ cover family has row row_ok (occurs.0, at)
+      | inr at ↦ cover' family has row row_ok at
+    ]
+
+-- closed tables cover each declared complex, whose rows are initial
+pub Cover-declared : (model : Model) (tables : List Table) → IsClosed model tables → (n : ℕ) (k : List (Option Agent)) → declared_complex model n ≡ Some k → Cover model.sig tables k
+Cover-declared model tables closed zero k is = absurd cc
+Cover-declared model tables closed (suc i) k is = λ family has row row_ok occurs. closed family has row row_ok (inl (i, k, is, occurs))
+
 -- closed tables that cover a mixture cover the next one
 pub Cover-step : (model : Model) (tables : List Table) (m next : List (Option Agent)) (event : Event) → AreTables model.sig tables → IsModel model → IsClosed model tables → IsMixtureOver model.sig m → Cover model.sig tables m → Step model m event next → Cover model.sig tables next
 Cover-step model tables m next (fires k cells) ok valid closed over cover (r, is, at, e) = λ family has row row_ok occurs.
     let occurs' : Occurs model.sig family row (fire r cells m) = rw e at occurs in
     closed family has row row_ok (inr (k, r, is, Yields-fire model.sig tables m ok over cover r cells (valid.rules k r is) at family row row_ok occurs'))
+Cover-step model tables m next (adds n) ok valid closed over cover (added, k, is, e) =
+    rw e (Cover-beside model.sig tables m k ok over (IsMixtureOver-declared model valid n k is) cover (Cover-declared model tables closed n k is))

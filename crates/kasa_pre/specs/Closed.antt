@@ -14,7 +14,7 @@ use Rattle.kasa_rules.specs.declared.model.Model.{Model}
 use Rattle.kasa_rules.specs.Rule.{RuleParts}
 use Rattle.kasa_pre.specs.Yields.{Yields}
 
--- the row occurs in a declared complex
+-- the row occurs in one copy of a declared complex, that of an init or of an addition alike
 abbrev pub IsInitial : Model → Family → Row → Type 0
 IsInitial model family row = (i : ℕ) × (m : List (Option Agent)) × (slice_get model.inits i ≡ Some m) × Occurs model.sig family row m
 

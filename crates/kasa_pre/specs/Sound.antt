@@ -1,4 +1,4 @@
--- What tables promise of every mixture that a model reaches.
+-- What tables promise of every mixture that a model reaches, by firings and additions.
 use Rattle.std.specs.Prelude.{ℕ, List, Option}
 use Rattle.kasa_graph.specs.declared.mixture.Agent.{Agent}
 use Rattle.kasa_graph.specs.Lists.{Has}

@@ -74,8 +74,9 @@ pub fn what_follows_is_yielded()
         Yields sig tables r family row }
 {}
 
-/// Closed tables are sound: in each mixture that the model reaches they hold all rows that occur, their lemmas hold, and no
-/// dead rule can fire.
+/// Closed tables are sound: in each mixture that the model reaches, by any firings and additions, they hold all rows that
+/// occur, their lemmas hold, and no dead rule can fire. Closed speaks of the rows of all declared complexes, those of inits
+/// and of additions alike.
 pub fn closed_tables_are_sound()
     ensures { (model : Model) (tables : List Table) → AreTables model.sig tables → IsModel model →
         IsClosed model tables → IsSoundFor model tables }
