@@ -1,5 +1,5 @@
 -- Each bond and each state of a reached mixture is in the contact map.
-use Rattle.std.proofs.Common.{◌≡◌, ◌≢◌, ℕ, ◌+◌, ◌<◌, ◌⊎◌, inl, inr, Bool, true, false, List, [], ◌∷◌, refl, sym, ap, ◌∙◌, length}
+use Rattle.std.proofs.Common.{◌≡◌, ◌≢◌, ℕ, zero, suc, ◌+◌, ◌<◌, ◌⊎◌, inl, inr, Bool, true, false, List, [], ◌∷◌, refl, sym, ap, ◌∙◌, length}
 use Rattle.std.specs.Prelude.{Option, Some, None, slice_get}
 use Rattle.std.specs.Option.{option_map_or}
 use Rattle.std.proofs.lemmas.Option.{some_pair_parts}
@@ -17,8 +17,8 @@ use Rattle.kasa_rules.specs.declared.rule.Written.TheVariants.{Free, To}
 use Rattle.kasa_rules.specs.declared.model.Model.{Model}
 use Rattle.kasa_rules.specs.Rule.{RuleParts, written_state, written_link, made_link, end_link, IsRuleOver}
 use Rattle.kasa_rules.specs.Firing.{fire, node_on, state_on, link_on, touched_on, end_cell, partner_at, target, unless, kept_partner}
-use Rattle.kasa_rules.specs.Reached.{Event, Step, Run, copies_of, Reached, IsModel}
-use Rattle.kasa_rules.specs.Reached.Event.{fires}
+use Rattle.kasa_rules.specs.Reached.{Event, Step, Run, declared_complex, copies_of, Reached, IsModel}
+use Rattle.kasa_rules.specs.Reached.Event.{fires, adds}
 use Rattle.kasa_rules.proofs.FiringLemmas.{node_on-found}
 use Rattle.kasa_rules.proofs.FiredLemmas.{partner_within, type_in-fire_old, type_in-fire_new, state_in-fire_new, partner_in-fire_made}
 use Rattle.kasa_rules.proofs.ReachedLemmas.{init_valid, IsMixtureOver-copies, IsMixtureOver-step}
@@ -162,18 +162,19 @@ module _ (model : Model) (valid : IsModel model) (tables : List Table) (ok : Are
   AreMapped-init i None e = AreMapped-[]
   AreMapped-init i (Some m) e = record { bonds = λ bond has. inl (m, (i, e), has); states = λ seen has. inl (m, (i, e), has) }
 
+  AreMapped-declared : (n : ℕ) (k : List (Option Agent)) → declared_complex model n ≡ Some k → AreMapped k
+  AreMapped-declared zero k is = absurd cc
+  AreMapped-declared (suc i) k is = AreMapped-init i (Some k) is
+
+  AreMapped-beside : (m k : List (Option Agent)) → IsMixtureOver model.sig m → AreMapped m → AreMapped k → AreMapped (beside m k)
+  AreMapped-beside m k over first second = record {
+    bonds = λ bond has. elim (HasBond-beside model.sig m k over bond has) [ inl was ↦ first.bonds bond was | inr new ↦ second.bonds bond new ];
+    states = λ seen has. elim (HasStateSeen-beside m k seen has) [ inl was ↦ first.states seen was | inr new ↦ second.states seen new ];
+  }
+
   AreMapped-copies : (copies : List ℕ) → AreMapped (copies_of model copies)
   AreMapped-copies [] = AreMapped-[]
-  AreMapped-copies (i ∷ copies) = record {
-    bonds = λ bond has. elim (HasBond-beside model.sig _ (copies_of model copies) (init_valid model valid (slice_get model.inits i) (λ m e. valid.inits i m e)) bond has) [
-      | inl first ↦ (AreMapped-init i (slice_get model.inits i) refl).bonds bond first
-      | inr second ↦ (AreMapped-copies copies).bonds bond second
-    ];
-    states = λ seen has. elim (HasStateSeen-beside _ (copies_of model copies) seen has) [
-      | inl first ↦ (AreMapped-init i (slice_get model.inits i) refl).states seen first
-      | inr second ↦ (AreMapped-copies copies).states seen second
-    ];
-  }
+  AreMapped-copies (i ∷ copies) = AreMapped-beside _ (copies_of model copies) (init_valid model valid (slice_get model.inits i) (λ m e. valid.inits i m e)) (AreMapped-init i (slice_get model.inits i) refl) (AreMapped-copies copies)
 
   AreMapped-step : (m next : List (Option Agent)) (event : Event) → IsMixtureOver model.sig m → Cover model.sig tables m → AreMapped m → Step model m event next → AreMapped next
   AreMapped-step m next (fires k cells) over cover mapped (r, is, at, e) = rw e (record {
@@ -183,6 +184,7 @@ module _ (model : Model) (valid : IsModel model) (tables : List Table) (ok : Are
     where
       live : IsAllowed model.sig tables r.left
       live = IsAllowed-cover model.sig tables m r.left cells ok over cover at
+  AreMapped-step m next (adds n) over cover mapped (added, k, is, e) = rw e (AreMapped-beside m k over mapped (AreMapped-declared n k is))
 
   AreMapped-run : (events : List Event) (m last : List (Option Agent)) → IsMixtureOver model.sig m → Cover model.sig tables m → AreMapped m → Run model m events last → AreMapped last
   AreMapped-run [] m last over cover mapped run = rw run mapped
@@ -191,7 +193,7 @@ module _ (model : Model) (valid : IsModel model) (tables : List Table) (ok : Are
 
   AreMapped-reached : (m : List (Option Agent)) → Reached model m → AreMapped m
   AreMapped-reached m reached =
-      let first : Reached model (copies_of model reached.copies) = record { copies = reached.copies; events = []; run = refl } in
+      let first : Reached model (copies_of model reached.copies) = record { copies = reached.copies; no_additions = reached.no_additions; events = []; run = refl } in
       AreMapped-run reached.events (copies_of model reached.copies) m (IsMixtureOver-copies model valid reached.copies) (Cover-reached model valid tables ok closed (copies_of model reached.copies) first) (AreMapped-copies reached.copies) reached.run
 
   pub IsContactBond-reached : (m : List (Option Agent)) → Reached model m → (bond : Bond) → HasBond m bond → IsContactBond model tables bond
