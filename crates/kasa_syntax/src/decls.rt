@@ -80,7 +80,9 @@ pub struct AgentDecl {
     pub sites: SiteDecls,
 }
 
-/// The declaration of a complex that may be there at first.
+/// A declared complex: one that may be there at first, or one that may be added at any moment.
+/// `start` runs from the first byte of an init's declaration, or of an addition's `$ADD`, to the
+/// last byte of the complex.
 #[derive(Debug, Drop)]
 pub struct InitDecl {
     pub start: Span,
@@ -149,5 +151,7 @@ pub struct RuleText {
 pub enum Decl {
     Agent(AgentDecl),
     Init(InitDecl),
+    /// An addition of a `%mod` declaration, which may have several.
+    Add(InitDecl),
     Rule(RuleText),
 }
