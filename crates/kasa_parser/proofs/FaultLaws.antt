@@ -1,5 +1,5 @@
 -- Where a declaration is stuck is its fault, with its cause.
-use Rattle.std.proofs.Common.{◌≡◌, ◌≤◌, ◌<◌, ◌⊎◌, inl, inr, ℕ, ◌-◌, List, [], ◌∷◌, ◌++◌, length, take, length-append, Bool, true, false, not, ◌&&◌, ◌||◌, nat_le, Option, Some, refl, sym, ap, ◌∙◌, append_assoc, append-nil, codes, arith}
+use Rattle.std.proofs.Common.{◌≡◌, ◌≤◌, ◌<◌, ◌⊎◌, inl, inr, ℕ, ◌-◌, List, [], ◌∷◌, ◌++◌, length, take, length-append, Bool, true, false, not, ◌&&◌, ◌||◌, nat_le, Some, refl, sym, ap, ◌∙◌, append_assoc, append-nil, codes, arith}
 use Rattle.std.proofs.lemmas.Bool.Decides.{nat_tests}
 use Rattle.std.proofs.lemmas.List.{take-map, length-map}
 use Rattle.std.specs.Str.Parse.{digits_value}
@@ -156,7 +156,7 @@ stuck-fault text ending ws left i = record { before = i.used; others = left; cut
 
 -- ---- what reading gives
 
-pub tree : (ws left : List Word) (d : Option Decl) → said_of (span_of ws) (read_declaration ws) ≡ got d left → IsDeclaration ws d
+pub tree : (ws left : List Word) (d : List Decl) → said_of (span_of ws) (read_declaration ws) ≡ got d left → IsDeclaration ws d
 tree ws left d e = by (read_declaration ws) (whole ws) e
   where
     by : (o : Outcome Said) → WholeReads declaration ws o → said_of (span_of ws) o ≡ got d left → IsDeclaration ws d

@@ -68,7 +68,7 @@ fails p js k a e = by (is_of js k) refl
 not_true : (a : Bool) → not a ≡ true → a ≡ false
 not_true a e = is_false a e
 
-disjoint-no : (js ks : Kinds) (k : TokenKind) → disjoint js ks ≡ true → has js k ≡ true → has ks k ≡ false
+pub disjoint-no : (js ks : Kinds) (k : TokenKind) → disjoint js ks ≡ true → has js k ≡ true → has ks k ≡ false
 disjoint-no (only js) ks k d e = is_false (has ks k) (passes (λ j. not (has ks j)) js k d e)
 disjoint-no (but js) (only ks) k d e = fails (λ k. is_of js k) ks k d (is_false (is_of js k) e)
 disjoint-no (but js) (but ks) k d e = false_true d
@@ -137,6 +137,14 @@ starts-not gs cs (w ∷ ws) d e = by (has gs w.kind) refl
 pub starts-within : (js ks : Kinds) (ws : List Word) → within js ks ≡ true → starts js ws ≡ true → starts ks ws ≡ true
 starts-within js ks [] d e = e
 starts-within js ks (w ∷ ws) d e = within-yes js ks w.kind d e
+
+-- what begins with no kind of a set begins with none of a smaller one
+pub starts-outside : (js ks : Kinds) (ws : List Word) → within js ks ≡ true → starts ks ws ≡ false → starts js ws ≡ false
+starts-outside js ks ws d e = by (starts js ws) refl
+  where
+    by : (t : Bool) → starts js ws ≡ t → starts js ws ≡ false
+    by true i = false_true (sym e ∙ starts-within js ks ws d i)
+    by false i = i
 
 pub starts-neither : (js ks : Kinds) (ws : List Word) → starts (js or ks) ws ≡ false → (starts js ws ≡ false) × (starts ks ws ≡ false)
 starts-neither js ks [] e = (refl, refl)

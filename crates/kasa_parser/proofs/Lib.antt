@@ -4,6 +4,7 @@ mod RuleLaws
 mod GrammarLaws
 mod Loops
 mod DeclLaws
+mod AddedLoops
 mod Runs
 mod Whole
 mod Said

@@ -1,10 +1,10 @@
 -- Reading a list in a loop.
-use Rattle.std.proofs.Common.{◌≡◌, ◌≤◌, ◌<◌, List, [], ◌∷◌, ◌++◌, length, Bool, true, false, if◌then◌else◌, refl, ◌∙◌, append_assoc, append-nil, arith}
+use Rattle.std.proofs.Common.{◌≡◌, ◌≤◌, ◌<◌, List, [], ◌∷◌, ◌++◌, length, Bool, true, false, refl, ◌∙◌, append_assoc, append-nil, arith}
 use Rattle.kasa_syntax.specs.declared.tokens.TokenKind.TheVariants.{Symbol}
-use Rattle.kasa_parser.specs.Words.{Word, Kinds, only, ◌or◌, same_kind, starts, rest}
+use Rattle.kasa_parser.specs.Words.{Word, Kinds, only, ◌or◌, same_kind, starts, past_comma}
 use Rattle.kasa_parser.specs.Rules.{Outcome, got, stuck, behind, Rule, many, behind_comma, listed}
 use Rattle.kasa_parser.proofs.KindSets.{disjoint, within}
-use Rattle.kasa_parser.proofs.RuleLaws.{IsReader, Reads, longer, any_most, one_begins, one_more, none_begins}
+use Rattle.kasa_parser.proofs.RuleLaws.{IsReader, Reads, by_kinds, longer, any_most, one_begins, one_more, none_begins}
 
 -- the list, where some elements have been read and these words are left
 abbrev pub with_more : {A : Type 0} → Kinds → Rule A → List A → List Word → Outcome (List A)
@@ -28,19 +28,15 @@ list-first {A} kinds r ws left x e o = rw (e, o) (by ((many (only (Symbol 44 ∷
     by (stuck last) = refl
 
 pub list-end : {A : Type 0} (kinds : Kinds) (r : Rule A) (done : List A) (ws : List Word) → starts (only (Symbol 44 ∷ []) or kinds) ws ≡ false → with_more kinds r done ws ≡ got done ws
-list-end kinds r done ws e = rw (none_begins (behind_comma r).read (only (Symbol 44 ∷ []) or kinds) ws (length ws) e, append-nil done) refl
+list-end kinds r done ws e = rw (none_begins (starts (only (Symbol 44 ∷ []) or kinds)) (behind_comma r).read ws (length ws) e, append-nil done) refl
 
-pub comma-read : {A : Type 0} (r : Rule A) (ws : List Word) → (behind_comma r).read ws ≡ r.read (if starts (only (Symbol 44 ∷ [])) ws then rest ws else ws)
+pub comma-read : {A : Type 0} (r : Rule A) (ws : List Word) → (behind_comma r).read ws ≡ r.read (past_comma ws)
 comma-read r [] = refl
 comma-read {A} r (w ∷ ws) = by (same_kind (Symbol 44) w.kind) refl
   where
-    by : (t : Bool) → same_kind (Symbol 44) w.kind ≡ t → (behind_comma r).read (w ∷ ws) ≡ r.read (if starts (only (Symbol 44 ∷ [])) (w ∷ ws) then ws else w ∷ ws)
+    by : (t : Bool) → same_kind (Symbol 44) w.kind ≡ t → (behind_comma r).read (w ∷ ws) ≡ r.read (past_comma (w ∷ ws))
     by true e = rw e refl
     by false e = rw e refl
-
--- the words behind a comma that stands first
-abbrev pub passed : List Word → List Word
-passed ws = if starts (only (Symbol 44 ∷ [])) ws then rest ws else ws
 
 list-next : {A : Type 0} (o : Outcome (List A)) (done : List A) (x : A) →
     behind (behind o (λ xs last. got (x ∷ xs) last)) (λ xs last. got (done ++ xs) last) ≡ behind o (λ xs last. got ((done ++ x ∷ []) ++ xs) last)
@@ -49,18 +45,18 @@ list-next (stuck last) done x = refl
 
 pub list-step : {A : Type 0} (r : Rule A) (b g kinds : Kinds) (done : List A) (ws left : List Word) (x : A) →
     within b (only (Symbol 44 ∷ []) or kinds) ≡ true → disjoint g (only (Symbol 44 ∷ []) or kinds) ≡ true → IsReader (behind_comma r) false b g → starts (only (Symbol 44 ∷ []) or kinds) ws ≡ true →
-    r.read (passed ws) ≡ got x left → with_more kinds r done ws ≡ with_more kinds r (done ++ x ∷ []) left
+    r.read (past_comma ws) ≡ got x left → with_more kinds r done ws ≡ with_more kinds r (done ++ x ∷ []) left
 list-step r b g kinds done ws left x w d next e o =
     let read = comma-read r ws ∙ o in
     let less = shorter ws left x next read in
-    let m = one_more (only (Symbol 44 ∷ []) or kinds) ws (length ws) e (omega arith) in
+    let m = one_more (starts (only (Symbol 44 ∷ []) or kinds)) refl ws (length ws) e (omega arith) in
     let most : length left ≤ m.0 = omega (arith, m.1) in
-    rw (m.1, one_begins (behind_comma r).read (only (Symbol 44 ∷ []) or kinds) ws left x m.0 e read, any_most (behind_comma r) b g (only (Symbol 44 ∷ []) or kinds) w d next left m.0 most)
+    rw (m.1, one_begins (starts (only (Symbol 44 ∷ []) or kinds)) (behind_comma r).read ws left x m.0 e read, any_most (behind_comma r) b g (starts (only (Symbol 44 ∷ []) or kinds)) (by_kinds _ w d next) next left m.0 most)
     (list-next ((many (only (Symbol 44 ∷ []) or kinds) (behind_comma r)).read left) done x)
 
 pub list-stuck : {A : Type 0} (r : Rule A) (kinds : Kinds) (done : List A) (ws left : List Word) → starts (only (Symbol 44 ∷ []) or kinds) ws ≡ true →
-    r.read (passed ws) ≡ stuck left → with_more kinds r done ws ≡ stuck left
+    r.read (past_comma ws) ≡ stuck left → with_more kinds r done ws ≡ stuck left
 list-stuck r kinds done ws left e o =
     let read = comma-read r ws ∙ o in
-    let m = one_more (only (Symbol 44 ∷ []) or kinds) ws (length ws) e (omega arith) in
+    let m = one_more (starts (only (Symbol 44 ∷ []) or kinds)) refl ws (length ws) e (omega arith) in
     rw (m.1, e, read) refl

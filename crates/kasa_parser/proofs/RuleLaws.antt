@@ -3,8 +3,8 @@ use Rattle.std.proofs.Common.{◌≡◌, ◌⊎◌, inl, inr, ℕ, zero, suc, Li
 use Rattle.kasa_syntax.specs.declared.tokens.TokenKind.{TokenKind}
 use Rattle.kasa_syntax.specs.declared.tokens.TokenKind.TheVariants.{Symbol}
 use Rattle.kasa_parser.specs.Words.{Word, Kinds, only, ◌or◌, has, same_kind, starts, a_word}
-use Rattle.kasa_parser.specs.Rules.{Outcome, got, stuck, behind, Rule, give, word, one_word, at_first, ◌▹◌, by_first, AreMany, read_many, many, symbol_at, symbol, maybe, behind_comma, listed_some, listed}
-use Rattle.kasa_parser.proofs.KindSets.{false_true, disjoint, within, starts-within, starts-neither, starts-left, starts-right, starts-append, starts-not}
+use Rattle.kasa_parser.specs.Rules.{Outcome, got, stuck, behind, Rule, give, word, one_word, at_first, ◌▹◌, by_first, AreMany, read_many, many, as_long_as, symbol_at, symbol, maybe, behind_comma, listed_some, listed}
+use Rattle.kasa_parser.proofs.KindSets.{false_true, disjoint, within, starts-within, starts-outside, starts-neither, starts-left, starts-right, starts-append, starts-not}
 
 -- ---- what may stand in place of what is left
 
@@ -248,65 +248,86 @@ first-law {A} {r} {s} {f} {b} {c} {g} {h} kinds w d one two = record {
 
 -- ---- one after another of the same rule, with any bound on their number that is large enough
 
-record IsGotMany {A : Type 0} (r : Rule A) (kinds : Kinds) (ws : List Word) (xs : List A) (left : List Word) : Type 0 where
+-- A test of the words to come tells where an element of the rule begins, and nothing goes on behind an element where it does.
+-- It tells so too where other words stand behind the one at which the rule is stuck.
+pub record IsChoice {A : Type 0} (r : Rule A) (g : Kinds) (goes : List Word → Bool) : Type 0 where
+  pub none : goes [] ≡ false
+  pub begins : (used others : List Word) (x : A) → r.Is used x → goes (used ++ others) ≡ true
+  pub stops : (ws : List Word) → goes ws ≡ true → starts g ws ≡ false
+  pub refuses : (used left other : List Word) → ((other : List Word) → IsRefused left other → r.read (used ++ other) ≡ stuck other) → IsRefused left other → goes (used ++ left) ≡ true → goes (used ++ other) ≡ true
+
+-- the kinds of first words are such a test
+pub by_kinds : {A : Type 0} {r : Rule A} {b g : Kinds} (kinds : Kinds) → within b kinds ≡ true → disjoint g kinds ≡ true → IsReader r false b g → IsChoice r g (starts kinds)
+by_kinds {A} {r} {b} {g} kinds w d one = record {
+  none = refl;
+  begins = λ used others x i. starts-append kinds used others (starts-within b kinds used w (one.begun used x i));
+  stops = λ ws e. starts-not g kinds ws d e;
+  refuses = λ used left other same a e. starts-same kinds true (used ++ left) used left other e refl (refused-alike left other a);
+}
+
+pub record IsGotMany {A : Type 0} (r : Rule A) (goes : List Word → Bool) (ws : List Word) (xs : List A) (left : List Word) : Type 0 where
   pub used : List Word
   pub cut : ws ≡ used ++ left
   pub is : AreMany r.Is used xs
-  pub same : (other : List Word) (most : ℕ) → Alike left other → length (used ++ other) ≤ most → read_many kinds r.read most (used ++ other) ≡ got xs other
+  pub halts : goes left ≡ false
+  pub same : (other : List Word) (most : ℕ) → Alike left other → goes other ≡ false → length (used ++ other) ≤ most → read_many goes r.read most (used ++ other) ≡ got xs other
 
-record IsStuckMany {A : Type 0} (r : Rule A) (kinds : Kinds) (ws : List Word) (left : List Word) : Type 0 where
+pub record IsStuckMany {A : Type 0} (r : Rule A) (goes : List Word → Bool) (ws : List Word) (left : List Word) : Type 0 where
   pub used : List Word
   pub cut : ws ≡ used ++ left
-  pub can : CanBegin (many kinds r) used
-  pub same : (other : List Word) (most : ℕ) → IsRefused left other → length (used ++ other) ≤ most → read_many kinds r.read most (used ++ other) ≡ stuck other
+  pub can : (more : List Word) × (xs : List A) × AreMany r.Is (used ++ more) xs
+  pub same : (other : List Word) (most : ℕ) → IsRefused left other → length (used ++ other) ≤ most → read_many goes r.read most (used ++ other) ≡ stuck other
 
-abbrev ReadsMany : {A : Type 0} → Rule A → Kinds → List Word → Outcome (List A) → Type 0
-ReadsMany r kinds ws (got xs left) = IsGotMany r kinds ws xs left
-ReadsMany r kinds ws (stuck left) = IsStuckMany r kinds ws left
+abbrev pub ReadsMany : {A : Type 0} → Rule A → (List Word → Bool) → List Word → Outcome (List A) → Type 0
+ReadsMany r goes ws (got xs left) = IsGotMany r goes ws xs left
+ReadsMany r goes ws (stuck left) = IsStuckMany r goes ws left
 
 pub longer : (b : Kinds) (used left : List Word) → starts b used ≡ true → length left < length (used ++ left)
 longer b [] left e = false_true e
 longer b (w ∷ ws) left e = omega (arith, length-append ws left)
 
-pub one_more : (kinds : Kinds) (ws : List Word) (most : ℕ) → starts kinds ws ≡ true → length ws ≤ most → (m : ℕ) × (most ≡ suc m)
-one_more kinds [] most e l = false_true e
-one_more kinds (w ∷ ws) zero e l = absurd (omega arith)
-one_more kinds (w ∷ ws) (suc m) e l = (m, refl)
+pub one_more : (goes : List Word → Bool) → goes [] ≡ false → (ws : List Word) (most : ℕ) → goes ws ≡ true → length ws ≤ most → (m : ℕ) × (most ≡ suc m)
+one_more goes none [] most e l = false_true (sym none ∙ e)
+one_more goes none (w ∷ ws) zero e l = absurd (omega arith)
+one_more goes none (w ∷ ws) (suc m) e l = (m, refl)
 
 -- where no element begins there are none
-pub none_begins : {A : Type 0} (one : List Word → Outcome A) (kinds : Kinds) (ws : List Word) (most : ℕ) → starts kinds ws ≡ false → read_many kinds one most ws ≡ got [] ws
-none_begins one kinds ws zero e = refl
-none_begins one kinds ws (suc m) e = rw e refl
+pub none_begins : {A : Type 0} (goes : List Word → Bool) (one : List Word → Outcome A) (ws : List Word) (most : ℕ) → goes ws ≡ false → read_many goes one most ws ≡ got [] ws
+none_begins goes one ws zero e = refl
+none_begins goes one ws (suc m) e = rw e refl
 
 -- where one begins it is read
-pub one_begins : {A : Type 0} (one : List Word → Outcome A) (kinds : Kinds) (ws left : List Word) (x : A) (most : ℕ) → starts kinds ws ≡ true → one ws ≡ got x left →
-    read_many kinds one (suc most) ws ≡ behind (read_many kinds one most left) (λ xs last. got (x ∷ xs) last)
-one_begins one kinds ws left x most e o = rw (e, o) refl
+pub one_begins : {A : Type 0} (goes : List Word → Bool) (one : List Word → Outcome A) (ws left : List Word) (x : A) (most : ℕ) → goes ws ≡ true → one ws ≡ got x left →
+    read_many goes one (suc most) ws ≡ behind (read_many goes one most left) (λ xs last. got (x ∷ xs) last)
+one_begins goes one ws left x most e o = rw (e, o) refl
 
-module _ {A : Type 0} (r : Rule A) (b g kinds : Kinds) (w : within b kinds ≡ true) (d : disjoint g kinds ≡ true) (one : IsReader r false b g) where
-  begins-one : (u others : List Word) (x : A) → r.Is u x → starts kinds (u ++ others) ≡ true
-  begins-one u others x i = starts-append kinds u others (starts-within b kinds u w (one.begun u x i))
+-- words that are refused are refused in place of themselves
+refused-self : (ws : List Word) → IsRefused ws ws
+refused-self [] = tt
+refused-self (x ∷ ws) = refl
 
+module _ {A : Type 0} (r : Rule A) (b g : Kinds) (goes : List Word → Bool) (choice : IsChoice r g goes) (one : IsReader r false b g) where
   -- what is read behind an element is read behind it in place of other words too
-  pub behind_one : (u v left other : List Word) (x : A) (most : ℕ) (o : Outcome (List A)) → r.Is u x → r.read (u ++ (v ++ other)) ≡ got x (v ++ other) →
-      ((m : ℕ) → length (v ++ other) ≤ m → read_many kinds r.read m (v ++ other) ≡ o) → length ((u ++ v) ++ other) ≤ most →
-      read_many kinds r.read most ((u ++ v) ++ other) ≡ behind o (λ xs last. got (x ∷ xs) last)
-  behind_one u v left other x most o i e more l =
+  behind_one : (u v other : List Word) (x : A) (most : ℕ) (o : Outcome (List A)) → r.Is u x → r.read (u ++ (v ++ other)) ≡ got x (v ++ other) →
+      ((m : ℕ) → length (v ++ other) ≤ m → read_many goes r.read m (v ++ other) ≡ o) → length ((u ++ v) ++ other) ≤ most →
+      read_many goes r.read most ((u ++ v) ++ other) ≡ behind o (λ xs last. got (x ∷ xs) last)
+  behind_one u v other x most o i e more l =
       let same_words = append_assoc u v other in
-      let begins = begins-one u (v ++ other) x i in
+      let begins = choice.begins u (v ++ other) x i in
       let short = longer b u (v ++ other) (one.begun u x i) in
-      let m = one_more kinds (u ++ (v ++ other)) most begins (rw same_words at l) in
+      let m = one_more goes choice.none (u ++ (v ++ other)) most begins (rw same_words at l) in
       let enough : length (v ++ other) ≤ m.0 = omega (arith, rw same_words at l, m.1) in
-      rw (same_words, m.1) (one_begins r.read kinds (u ++ (v ++ other)) (v ++ other) x m.0 begins e ∙ rw (more m.0 enough) refl)
+      rw (same_words, m.1) (one_begins goes r.read (u ++ (v ++ other)) (v ++ other) x m.0 begins e ∙ rw (more m.0 enough) refl)
 
-  later : (ws left : List Word) (x : A) → IsGot r ws x left → (o : Outcome (List A)) → ReadsMany r kinds left o → ReadsMany r kinds ws (behind o (λ xs last. got (x ∷ xs) last))
+  later : (ws left : List Word) (x : A) → IsGot r ws x left → (o : Outcome (List A)) → ReadsMany r goes left o → ReadsMany r goes ws (behind o (λ xs last. got (x ∷ xs) last))
   later ws left x i (got xs last) j = record {
     used = i.used ++ j.used;
     cut = i.cut ∙ ap (λ l. i.used ++ l) j.cut ∙ sym (append_assoc i.used j.used last);
     is = (i.used, j.used, i.is, j.is, refl);
-    same = λ other most a l.
+    halts = j.halts;
+    same = λ other most a e l.
         let at : Alike left (j.used ++ other) = rw j.cut (alike-behind j.used last other a) in
-        behind_one i.used j.used left other x most (got xs other) i.is (i.same (j.used ++ other) at) (λ m enough. j.same other m a enough) l;
+        behind_one i.used j.used other x most (got xs other) i.is (i.same (j.used ++ other) at) (λ m enough. j.same other m a e enough) l;
   }
   later ws left x i (stuck last) j = record {
     used = i.used ++ j.used;
@@ -314,58 +335,55 @@ module _ {A : Type 0} (r : Rule A) (b g kinds : Kinds) (w : within b kinds ≡ t
     can = (j.can.0, x ∷ j.can.1, (i.used, j.used ++ j.can.0, i.is, j.can.2, append_assoc i.used j.used j.can.0));
     same = λ other most a l.
         let at : Alike left (j.used ++ other) = rw j.cut (alike-behind j.used last other (refused-alike last other a)) in
-        behind_one i.used j.used left other x most (stuck other) i.is (i.same (j.used ++ other) at) (λ m enough. j.same other m a enough) l;
+        behind_one i.used j.used other x most (stuck other) i.is (i.same (j.used ++ other) at) (λ m enough. j.same other m a enough) l;
   }
 
-  stuck_there : (ws left : List Word) → IsStuck r ws left → starts kinds ws ≡ true → IsStuckMany r kinds ws left
+  stuck_there : (ws left : List Word) → IsStuck r ws left → goes ws ≡ true → IsStuckMany r goes ws left
   stuck_there ws left i e = record {
     used = i.used;
     cut = i.cut;
     can = (i.can.0, i.can.1 ∷ [], (i.used ++ i.can.0, [], i.can.2, refl, sym (append-nil (i.used ++ i.can.0))));
     same = λ other most a l.
-        let begins = starts-same kinds true ws i.used left other e i.cut (refused-alike left other a) in
-        let m = one_more kinds (i.used ++ other) most begins l in
+        let begins = choice.refuses i.used left other i.same a (rw i.cut at e) in
+        let m = one_more goes choice.none (i.used ++ other) most begins l in
         rw (m.1, begins, i.same other a) refl;
   }
 
-  at_one : (n : ℕ) → ((left : List Word) → length left ≤ n → ReadsMany r kinds left (read_many kinds r.read n left)) → (ws : List Word) → length ws ≤ suc n → starts kinds ws ≡ true →
-      (o : Outcome A) → Reads r ws o → ReadsMany r kinds ws (behind o (λ x left. behind (read_many kinds r.read n left) (λ xs last. got (x ∷ xs) last)))
+  at_one : (n : ℕ) → ((left : List Word) → length left ≤ n → ReadsMany r goes left (read_many goes r.read n left)) → (ws : List Word) → length ws ≤ suc n → goes ws ≡ true →
+      (o : Outcome A) → Reads r ws o → ReadsMany r goes ws (behind o (λ x left. behind (read_many goes r.read n left) (λ xs last. got (x ∷ xs) last)))
   at_one n more ws l e (stuck left) i = stuck_there ws left i e
   at_one n more ws l e (got x left) i =
       let short = longer b i.used left (one.begun i.used x i.is) in
-      later ws left x i (read_many kinds r.read n left) (more left (omega (arith, rw i.cut at l)))
+      later ws left x i (read_many goes r.read n left) (more left (omega (arith, rw i.cut at l)))
 
-  at_none : (ws : List Word) → starts kinds ws ≡ false → IsGotMany r kinds ws [] ws
+  at_none : (ws : List Word) → goes ws ≡ false → IsGotMany r goes ws [] ws
   at_none ws e = record {
     used = [];
     cut = refl;
     is = refl;
-    same = λ other most a l. none_begins r.read kinds other most (starts-same kinds false ws [] ws other e refl a);
+    halts = e;
+    same = λ other most a e l. none_begins goes r.read other most e;
   }
 
-  at_words : (n : ℕ) → ((left : List Word) → length left ≤ n → ReadsMany r kinds left (read_many kinds r.read n left)) → (ws : List Word) → length ws ≤ suc n → (t : Bool) → starts kinds ws ≡ t →
-      ReadsMany r kinds ws (if t then behind (r.read ws) (λ x left. behind (read_many kinds r.read n left) (λ xs last. got (x ∷ xs) last)) else got [] ws)
+  at_words : (n : ℕ) → ((left : List Word) → length left ≤ n → ReadsMany r goes left (read_many goes r.read n left)) → (ws : List Word) → length ws ≤ suc n → (t : Bool) → goes ws ≡ t →
+      ReadsMany r goes ws (if t then behind (r.read ws) (λ x left. behind (read_many goes r.read n left) (λ xs last. got (x ∷ xs) last)) else got [] ws)
   at_words n more ws l true e = at_one n more ws l e (r.read ws) (one.reads ws)
   at_words n more ws l false e = at_none ws e
 
-  many-reads : (n : ℕ) (ws : List Word) → length ws ≤ n → ReadsMany r kinds ws (read_many kinds r.read n ws)
-  many-reads zero [] l = at_none [] refl
+  pub many-reads : (n : ℕ) (ws : List Word) → length ws ≤ n → ReadsMany r goes ws (read_many goes r.read n ws)
+  many-reads zero [] l = at_none [] choice.none
   many-reads zero (w ∷ ws) l = absurd (omega arith)
-  many-reads (suc n) ws l = at_words n (λ left short. many-reads n left short) ws l (starts kinds ws) refl
+  many-reads (suc n) ws l = at_words n (λ left short. many-reads n left short) ws l (goes ws) refl
 
-  as_rule : (ws : List Word) (o : Outcome (List A)) → ReadsMany r kinds ws o → Reads (many kinds r) ws o
-  as_rule ws (got xs left) i = record { used = i.used; cut = i.cut; is = i.is; same = λ other a. i.same other (length (i.used ++ other)) a (omega arith) }
-  as_rule ws (stuck left) i = record { used = i.used; cut = i.cut; can = i.can; same = λ other a. i.same other (length (i.used ++ other)) a (omega arith) }
+  stops-many : (u others : List Word) (xs : List A) → AreMany r.Is u xs → starts g others ≡ false → starts g (u ++ others) ≡ false
+  stops-many u others [] i stops = rw i stops
+  stops-many u others (x ∷ xs) (a, c, i, j, cut) stops = rw (cut, append_assoc a c others) (choice.stops (a ++ (c ++ others)) (choice.begins a (c ++ others) x i))
 
-  stops-many : (u others : List Word) (xs : List A) → AreMany r.Is u xs → starts (kinds or g) others ≡ false → starts g (u ++ others) ≡ false
-  stops-many u others [] i stops = rw i (starts-neither kinds g others stops).1
-  stops-many u others (x ∷ xs) (a, c, i, j, cut) stops = rw (cut, append_assoc a c others) (starts-not g kinds (a ++ (c ++ others)) d (begins-one a (c ++ others) x i))
-
-  whole-many : (u others : List Word) (xs : List A) (most : ℕ) → AreMany r.Is u xs → starts (kinds or g) others ≡ false → length (u ++ others) ≤ most → read_many kinds r.read most (u ++ others) ≡ got xs others
-  whole-many u others [] most i stops l = rw i (none_begins r.read kinds others most (starts-neither kinds g others stops).0)
-  whole-many u others (x ∷ xs) most (a, c, i, j, cut) stops l =
-      rw cut (behind_one a c others others x most (got xs others) i (one.whole a (c ++ others) x i (stops-many c others xs j stops))
-      (λ m enough. whole-many c others xs m j stops enough) (rw cut at l))
+  pub whole-many : (u others : List Word) (xs : List A) (most : ℕ) → AreMany r.Is u xs → starts g others ≡ false → goes others ≡ false → length (u ++ others) ≤ most → read_many goes r.read most (u ++ others) ≡ got xs others
+  whole-many u others [] most i stops none l = rw i (none_begins goes r.read others most none)
+  whole-many u others (x ∷ xs) most (a, c, i, j, cut) stops none l =
+      rw cut (behind_one a c others x most (got xs others) i (one.whole a (c ++ others) x i (stops-many c others xs j stops))
+      (λ m enough. whole-many c others xs m j stops none enough) (rw cut at l))
 
   pub begun-many : (u : List Word) (xs : List A) → AreMany r.Is u xs → Begun true b u
   begun-many u [] i = inl i
@@ -375,24 +393,91 @@ module _ {A : Type 0} (r : Rule A) (b g kinds : Kinds) (w : within b kinds ≡ t
   alike-self [] = tt
   alike-self (x ∷ ws) = refl
 
-  refused-self : (ws : List Word) → IsRefused ws ws
-  refused-self [] = tt
-  refused-self (x ∷ ws) = refl
-
-  most-by : (ws : List Word) (o : Outcome (List A)) (most : ℕ) → ReadsMany r kinds ws o → length ws ≤ most → read_many kinds r.read most ws ≡ o
-  most-by ws (got xs left) most i l = rw i.cut (i.same left most (alike-self left) (rw i.cut at l))
+  most-by : (ws : List Word) (o : Outcome (List A)) (most : ℕ) → ReadsMany r goes ws o → length ws ≤ most → read_many goes r.read most ws ≡ o
+  most-by ws (got xs left) most i l = rw i.cut (i.same left most (alike-self left) i.halts (rw i.cut at l))
   most-by ws (stuck left) most i l = rw i.cut (i.same left most (refused-self left) (rw i.cut at l))
 
   -- any bound on their number that is large enough gives the same
-  pub any_most : (ws : List Word) (most : ℕ) → length ws ≤ most → read_many kinds r.read most ws ≡ (many kinds r).read ws
-  any_most ws most l = most-by ws (read_many kinds r.read (length ws) ws) most (many-reads (length ws) ws (omega arith)) l
+  pub any_most : (ws : List Word) (most : ℕ) → length ws ≤ most → read_many goes r.read most ws ≡ read_many goes r.read (length ws) ws
+  any_most ws most l = most-by ws (read_many goes r.read (length ws) ws) most (many-reads (length ws) ws (omega arith)) l
 
-  pub many-law : IsReader (many kinds r) true b (kinds or g)
-  many-law = record {
-    reads = λ ws. as_rule ws (read_many kinds r.read (length ws) ws) (many-reads (length ws) ws (omega arith));
-    whole = λ used others xs i stops. whole-many used others xs (length (used ++ others)) i stops (omega arith);
-    begun = λ used xs i. begun-many used xs i;
-  }
+pub many-law : {A : Type 0} (r : Rule A) (b g kinds : Kinds) → within b kinds ≡ true → disjoint g kinds ≡ true → IsReader r false b g → IsReader (many kinds r) true b (kinds or g)
+many-law {A} r b g kinds w d one = record {
+  reads = λ ws. as_rule ws (read_many (starts kinds) r.read (length ws) ws) (many-reads r b g (starts kinds) choice one (length ws) ws (omega arith));
+  whole = λ used others xs i stops.
+      let neither = starts-neither kinds g others stops in
+      whole-many r b g (starts kinds) choice one used others xs (length (used ++ others)) i neither.1 neither.0 (omega arith);
+  begun = λ used xs i. begun-many r b g (starts kinds) choice one used xs i;
+}
+  where
+    choice : IsChoice r g (starts kinds)
+    choice = by_kinds kinds w d one
+
+    as_rule : (ws : List Word) (o : Outcome (List A)) → ReadsMany r (starts kinds) ws o → Reads (many kinds r) ws o
+    as_rule ws (got xs left) i = record {
+      used = i.used;
+      cut = i.cut;
+      is = i.is;
+      same = λ other a. i.same other (length (i.used ++ other)) a (sym (alike-starts kinds left other a) ∙ i.halts) (omega arith);
+    }
+    as_rule ws (stuck left) i = record { used = i.used; cut = i.cut; can = i.can; same = λ other a. i.same other (length (i.used ++ other)) a (omega arith) }
+
+-- ---- as long as a test of the words to come says so
+
+-- The words behind the elements are always read, as far as words of some kinds go, and what stands behind these is nothing to
+-- the test.
+pub record Closes (s : Rule (Unit {0})) (kinds : Kinds) (goes : List Word → Bool) : Type 0 where
+  pub empty : s.Is [] tt
+  pub ends : (ws : List Word) → (left : List Word) × (s.read ws ≡ got tt left) × (starts kinds left ≡ false)
+  pub near : (used left : List Word) → starts kinds left ≡ false → goes (used ++ left) ≡ goes used
+
+pub as_long_as-law : {A : Type 0} {r : Rule A} {s : Rule (Unit {0})} {b c h : Kinds} (goes : List Word → Bool) (kinds : Kinds) → IsChoice r (only []) goes → Closes s kinds goes →
+    IsReader r false b (only []) → IsReader s true c h → IsReader (as_long_as goes r s) true (b or c) (h or kinds)
+as_long_as-law {A} {r} {s} {b} {c} {h} goes kinds choice closes one two = record {
+  reads = λ ws. first ws (read_many goes r.read (length ws) ws) (many-reads r b (only []) goes choice one (length ws) ws (omega arith));
+  whole = λ used others xs i stops. whole used others xs i (starts-neither h kinds others stops);
+  begun = λ used xs i. rw i.5 (begun-both true true b c i.0 i.1 (begun-many r b (only []) goes choice one i.0 xs i.2) (two.begun i.1 tt i.3));
+}
+  where
+    no_kinds : (ws : List Word) → starts (only []) ws ≡ false
+    no_kinds [] = refl
+    no_kinds (w ∷ ws) = refl
+
+    -- the words behind the elements are read
+    at_end : (ws left : List Word) (xs : List A) → IsGotMany r goes ws xs left → (last : List Word) → s.read left ≡ got tt last → starts kinds last ≡ false → IsGot s left tt last → IsGot (as_long_as goes r s) ws xs last
+    at_end ws left xs i last read ended j = record {
+      used = i.used ++ j.used;
+      cut = i.cut ∙ ap (λ l. i.used ++ l) j.cut ∙ sym (append_assoc i.used j.used last);
+      is = (i.used, j.used, i.is, j.is, sym (closes.near j.used last ended) ∙ rw (← j.cut) i.halts, refl);
+      same = λ other a.
+          let at : Alike left (j.used ++ other) = rw j.cut (alike-behind j.used last other a) in
+          let also : starts kinds other ≡ false = sym (alike-starts kinds last other a) ∙ ended in
+          let halts : goes (j.used ++ other) ≡ false = closes.near j.used other also ∙ sym (closes.near j.used last ended) ∙ rw (← j.cut) i.halts in
+          rw (append_assoc i.used j.used other, i.same (j.used ++ other) (length (i.used ++ (j.used ++ other))) at halts (omega arith), j.same other a) refl;
+    }
+
+    behind_them : (ws left : List Word) (xs : List A) → IsGotMany r goes ws xs left → (o : Outcome (Unit {0})) → s.read left ≡ o → Reads s left o → Reads (as_long_as goes r s) ws (behind o (λ none last. got xs last))
+    behind_them ws left xs i (got tt last) e j =
+        let end = closes.ends left in
+        let same : end.0 ≡ last = (let outcome : got tt end.0 ≡ got tt last = sym end.1 ∙ e in cc) in
+        at_end ws left xs i last e (rw (← same) end.2) j
+    behind_them ws left xs i (stuck last) e j =
+        let end = closes.ends left in
+        absurd (let outcome : got tt end.0 ≡ stuck last = sym end.1 ∙ e in let different : ⊥ = cc in different)
+
+    first : (ws : List Word) (o : Outcome (List A)) → ReadsMany r goes ws o → Reads (as_long_as goes r s) ws (behind o (λ xs left. behind (s.read left) (λ none last. got xs last)))
+    first ws (got xs left) i = behind_them ws left xs i (s.read left) refl (two.reads left)
+    first ws (stuck left) i = record {
+      used = i.used;
+      cut = i.cut;
+      can = (i.can.0, i.can.1, (i.used ++ i.can.0, [], i.can.2, closes.empty, choice.none, sym (append-nil (i.used ++ i.can.0))));
+      same = λ other a. rw (i.same other (length (i.used ++ other)) a (omega arith)) refl;
+    }
+
+    whole : (used others : List Word) (xs : List A) → (as_long_as goes r s).Is used xs → (starts h others ≡ false) × (starts kinds others ≡ false) → (as_long_as goes r s).read (used ++ others) ≡ got xs others
+    whole used others xs (u, v, are, is, halts, cut) stops =
+        let here : goes (v ++ others) ≡ false = closes.near v others stops.1 ∙ halts in
+        rw (cut, append_assoc u v others, whole-many r b (only []) goes choice one u (v ++ others) xs (length (u ++ (v ++ others))) are (no_kinds (v ++ others)) here (omega arith), two.whole v others tt is stops.0) refl
 
 -- ---- what is made of these
 
@@ -400,14 +485,10 @@ pub weaken : {A : Type 0} {r : Rule A} {e : Bool} {b g : Kinds} (more_b more_g :
     IsReader r e b g → IsReader r e more_b more_g
 weaken {A} {r} {e} {b} {g} more_b more_g w v one = record {
   reads = λ ws. one.reads ws;
-  whole = λ used others x i stops. one.whole used others x i (stops_too others (starts g others) refl stops);
+  whole = λ used others x i stops. one.whole used others x i (starts-outside g more_g others v stops);
   begun = λ used x i. more e used (one.begun used x i);
 }
   where
-    stops_too : (others : List Word) (t : Bool) → starts g others ≡ t → starts more_g others ≡ false → starts g others ≡ false
-    stops_too others true i stops = false_true (sym stops ∙ starts-within g more_g others v i)
-    stops_too others false i stops = i
-
     more : (f : Bool) (used : List Word) → Begun f b used → Begun f more_b used
     more true used (inl i) = inl i
     more true used (inr i) = inr (starts-within b more_b used w i)

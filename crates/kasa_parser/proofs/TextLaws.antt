@@ -1,5 +1,5 @@
 -- What is read of a text is what its tokens give, and nothing else.
-use Rattle.std.proofs.Common.{◌≡◌, ◌⊎◌, ℕ, List, [], ◌∷◌, ◌++◌, length, length-drop, Bool, true, false, Option, Result, Ok, Err, refl, sym, ap, subst, ◌∙◌, inl, inr, append_assoc, append-nil, codes, arith}
+use Rattle.std.proofs.Common.{◌≡◌, ◌⊎◌, ℕ, List, [], ◌∷◌, ◌++◌, length, length-drop, Bool, true, false, Result, Ok, Err, refl, sym, ap, subst, ◌∙◌, inl, inr, append_assoc, append-nil, codes, arith}
 use Rattle.kasa_syntax.specs.declared.tokens.Token.{Token}
 use Rattle.kasa_syntax.specs.declared.tokens.TokenKind.TheVariants.{Percent, Dollar, Symbol}
 use Rattle.kasa_syntax.specs.declared.decls.Decl.{Decl}
@@ -15,24 +15,25 @@ use Rattle.kasa_parser.specs.Declarations.{Declaration, declarations_of}
 use Rattle.kasa_parser.specs.DeclFaults.{CanGoOn, IsCut, IsTokens, IsIntervention, IsLongLabel, IsCause, IsFault}
 use Rattle.kasa_parser.specs.Parses.{Parses, IsOutcome, declaration_from, with_more, with_read, read_all}
 use Rattle.kasa_parser.specs.Parses.Parses.{ended, read, fault_later, fault_here}
-use Rattle.kasa_parser.specs.Steps.{AreWithin, fault_of}
+use Rattle.kasa_parser.specs.Steps.{AreWithin, fault_of, onto}
+use Rattle.kasa_parser.specs.Split.{with_done, read_behind}
 use Rattle.kasa_parser.proofs.KindSets.{false_true, same_kind-same, both}
 use Rattle.kasa_parser.proofs.DeclLaws.{declaration-law}
 use Rattle.kasa_parser.proofs.Whole.{whole-is}
 use Rattle.kasa_parser.proofs.FaultLaws.{digits-kind, tree, fault}
 
-pub complete : (ws : List Word) (d : Option Decl) → IsDeclaration ws d → declaration_from ws ≡ got d []
+pub complete : (ws : List Word) (d : List Decl) → IsDeclaration ws d → declaration_from ws ≡ got d []
 complete ws d (said, is, same) =
     let read = whole-is declaration true (but []) (but []) declaration-law ws said is in
     rw (read, same) refl
 
-pub one_declaration : (ws : List Word) (d e : Option Decl) → IsDeclaration ws d → IsDeclaration ws e → d ≡ e
+pub one_declaration : (ws : List Word) (d e : List Decl) → IsDeclaration ws d → IsDeclaration ws e → d ≡ e
 one_declaration ws d e first second =
     let same : got d [] ≡ got e [] = sym (complete ws d first) ∙ complete ws e second in
     cc
 
 -- a declaration without a fault
-pub no-fault : (text : List ℕ) (d : Declaration) (given : Option Decl) (fault : ParseFault) → IsDeclaration d.words given → ¬ IsFault text d.words d.ending fault
+pub no-fault : (text : List ℕ) (d : Declaration) (given : List Decl) (fault : ParseFault) → IsDeclaration d.words given → ¬ IsFault text d.words d.ending fault
 no-fault text d given fault is f = by f.others f.cut f.stuck
   where
     by : (rest : List Word) → d.words ≡ f.before ++ rest → IsCut f.before rest → ⊥
@@ -157,13 +158,13 @@ pub Parses-read : (text : List ℕ) (ds : List Declaration) → Parses text ds (
 Parses-read text [] = ended
 Parses-read text (d ∷ ds) = by (declaration_from d.words) refl (read_all text ds) (Parses-read text ds)
   where
-    by : (o : Outcome (Option Decl)) → declaration_from d.words ≡ o → (more : Result (List Decl) ParseFault) → Parses text ds more → Parses text (d ∷ ds) (with_read text d o more)
+    by : (o : Outcome (List Decl)) → declaration_from d.words ≡ o → (more : Result (List Decl) ParseFault) → Parses text ds more → Parses text (d ∷ ds) (with_read text d o more)
     by (got given rest) e (Ok decls) later = read given (tree d.words rest given e) later
     by (got given rest) e (Err bad) later = fault_later given (tree d.words rest given e) later
     by (stuck rest) e more later = fault_here (fault_of text d.ending d.words rest) (fault text d.ending d.words rest e)
 
 -- a declaration that is read
-read-on : (text : List ℕ) (d : Declaration) (ds : List Declaration) (given : Option Decl) (more : Result (List Decl) ParseFault) → IsDeclaration d.words given → more ≡ read_all text ds →
+read-on : (text : List ℕ) (d : Declaration) (ds : List Declaration) (given : List Decl) (more : Result (List Decl) ParseFault) → IsDeclaration d.words given → more ≡ read_all text ds →
     with_more given more ≡ read_all text (d ∷ ds)
 read-on text d ds given more is same =
     ap (with_more given) same ∙ ap (λ o. with_read text d o (read_all text ds)) (sym (complete d.words given is))
@@ -172,7 +173,7 @@ read-on text d ds given more is same =
 fault-read : (text : List ℕ) (d : Declaration) (ds : List Declaration) (bad : ParseFault) → IsFault text d.words d.ending bad → Err bad ≡ read_all text (d ∷ ds)
 fault-read text d ds bad is = by (declaration_from d.words) refl
   where
-    by : (o : Outcome (Option Decl)) → declaration_from d.words ≡ o → Err bad ≡ with_read text d o (read_all text ds)
+    by : (o : Outcome (List Decl)) → declaration_from d.words ≡ o → Err bad ≡ with_read text d o (read_all text ds)
     by (got given rest) e = absurd (no-fault text d given bad (tree d.words rest given e) is)
     by (stuck rest) e = ap {B = Result (List Decl) ParseFault} (λ f. Err f) (one_fault text d bad (fault_of text d.ending d.words rest) is (fault text d.ending d.words rest e))
 
@@ -208,3 +209,16 @@ outcome_within text ts outcome = covers-within text 0 ts (covers text ts outcome
 pub is_outcome : (text : List ℕ) (tokens : List Token) (declared : List Declaration) (outcome : Result (List Decl) ParseFault)
     → declared ≡ declarations_of (length text) (words_of text tokens) → read_all text declared ≡ outcome → IsOutcome text tokens outcome
 is_outcome text tokens declared outcome e h = subst (IsOutcome text tokens) (ap (read_all text) (sym e) ∙ h) (outcome-is text tokens)
+
+-- what a declaration that is read adds
+pub read_behind-next : (text : List ℕ) (done new : List Decl) (d : Declaration) (more : List Declaration) (left : List Word) → onto done (declaration_from d.words) ≡ got new left →
+    read_behind text done (d ∷ more) ≡ read_behind text new more
+read_behind-next text done new d more left e = by (declaration_from d.words) refl e
+  where
+    at : (given : List Decl) (later : Result (List Decl) ParseFault) → done ++ given ≡ new → with_done done (with_more given later) ≡ with_done new later
+    at given (Ok decls) all = rw (← all) (ap {B = Result (List Decl) ParseFault} (λ l. Ok l) (sym (append_assoc done given decls)))
+    at given (Err bad) all = refl
+
+    by : (o : Outcome (List Decl)) → declaration_from d.words ≡ o → onto done o ≡ got new left → with_done done (with_read text d (declaration_from d.words) (read_all text more)) ≡ with_done new (read_all text more)
+    by (got given last) i e = let all : done ++ given ≡ new = cc in rw i (at given (read_all text more) all)
+    by (stuck last) i e = absurd (let different : ⊥ = cc in different)

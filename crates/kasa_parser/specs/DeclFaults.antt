@@ -1,5 +1,5 @@
 -- The first fault of a declaration's words.
-use Rattle.std.specs.Prelude.{◌≡◌, ◌<◌, ℕ, ◌⊎◌, true, false, List, [], ◌∷◌, ◌++◌, Option, codes}
+use Rattle.std.specs.Prelude.{◌≡◌, ◌<◌, ℕ, ◌⊎◌, true, false, List, [], ◌∷◌, ◌++◌, codes}
 use Rattle.std.specs.Str.Parse.{digits_value}
 use Rattle.kasa_syntax.specs.Place.{place_at}
 use Rattle.kasa_syntax.specs.declared.tokens.TokenKind.TheVariants.{Name, Number, Percent, Symbol}
@@ -11,11 +11,11 @@ use Rattle.kasa_parser.specs.Decls.{is_keyword, is_intervention, IsDeclaration}
 
 -- some declaration begins with these words
 abbrev pub CanGoOn : List Word → Type 0
-CanGoOn ws = (more : List Word) × (d : Option Decl) × IsDeclaration (ws ++ more) d
+CanGoOn ws = (more : List Word) × (given : List Decl) × IsDeclaration (ws ++ more) given
 
 -- the words end before the declaration does, or no declaration has the next word there
 abbrev pub IsCut : List Word → List Word → Type 0
-IsCut before [] = (d : Option Decl) → ¬ IsDeclaration before d
+IsCut before [] = (given : List Decl) → ¬ IsDeclaration before given
 IsCut before (w ∷ others) = ¬ CanGoOn (before ++ w ∷ [])
 
 -- ---- causes

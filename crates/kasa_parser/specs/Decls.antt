@@ -1,6 +1,6 @@
 -- The grammar of declarations. Symbols stand by their bytes, as in `Grammar`; 42 is `*`, 58 `:` and 64 `@`.
-use Rattle.std.specs.Prelude.{◌≡◌, ℕ, List, [], ◌∷◌, Bool, true, false, not, if◌then◌else◌, ◌&&◌, ◌||◌, ◌==◌, Option, Some, None, codes}
-use Rattle.std.specs.List.{list_any}
+use Rattle.std.specs.Prelude.{◌≡◌, ℕ, List, [], ◌∷◌, map, Bool, true, false, not, if◌then◌else◌, ◌&&◌, ◌||◌, ◌==◌, Option, Some, None, codes}
+use Rattle.std.specs.List.{list_any, flat_map}
 use Rattle.kasa_syntax.specs.declared.tokens.Span.{Span}
 use Rattle.kasa_syntax.specs.declared.tokens.TokenKind.{TokenKind}
 use Rattle.kasa_syntax.specs.declared.tokens.TokenKind.TheVariants.{Name, Number, Quoted, Percent, Dollar, Arrow, BothArrow, Symbol}
@@ -12,6 +12,7 @@ use Rattle.kasa_syntax.specs.declared.agents.Mark.TheVariants.{Plain}
 use Rattle.kasa_syntax.specs.declared.agents.AgentText.{AgentText}
 use Rattle.kasa_syntax.specs.declared.decls.SiteDecl.{SiteDecl}
 use Rattle.kasa_syntax.specs.declared.decls.AgentDecl.{AgentDecl}
+use Rattle.kasa_syntax.specs.declared.decls.InitDecl.{InitDecl}
 use Rattle.kasa_syntax.specs.declared.decls.RuleText.{RuleText}
 use Rattle.kasa_syntax.specs.declared.decls.Item.{Item}
 use Rattle.kasa_syntax.specs.declared.decls.Item.TheVariants.{Absent, Agent as agent_item}
@@ -23,9 +24,12 @@ use Rattle.kasa_parser.specs.declared.run.Keyword.{Keyword}
 use Rattle.kasa_parser.specs.declared.run.Keyword.TheVariants as keyword
 use Rattle.kasa_parser.specs.declared.run.Run.{Run}
 use Rattle.kasa_parser.specs.declared.run.Run.TheVariants.{Links, Mod, Rate}
-use Rattle.kasa_parser.specs.Words.{Word, Kinds, only, but, has, same_kind, are_digits, are_equal}
-use Rattle.kasa_parser.specs.Rules.{Rule, Outcome, got, stuck, behind, give, word, ◌▹◌, by_first, many, listed, listed_some, symbol, maybe, in_any_order}
-use Rattle.kasa_parser.specs.Grammar.{name, items, agent}
+use Rattle.kasa_parser.specs.declared.run.DollarWord.{DollarWord}
+use Rattle.kasa_parser.specs.declared.run.DollarWord.TheVariants.{Addition, Other}
+use Rattle.kasa_parser.specs.declared.additions.EndedAgent.{EndedAgent}
+use Rattle.kasa_parser.specs.Words.{Word, Kinds, only, but, has, same_kind, starts, rest, past_comma, are_digits, are_equal}
+use Rattle.kasa_parser.specs.Rules.{Rule, Outcome, got, stuck, behind, give, word, ◌▹◌, by_first, many, as_long_as, listed, listed_some, symbol, maybe, behind_comma, in_any_order}
+use Rattle.kasa_parser.specs.Grammar.{name, sites, items, agent}
 
 -- ---- single words
 
@@ -33,8 +37,7 @@ abbrev pub is_keyword : List ℕ → Word → Bool
 is_keyword spelling w = same_kind Percent w.kind && are_equal w.bytes spelling
 
 abbrev pub is_intervention : Word → Bool
-is_intervention w =
-    same_kind Dollar w.kind && (are_equal w.bytes (codes "$ADD") || are_equal w.bytes (codes "$DEL") || are_equal w.bytes (codes "$APPLY"))
+is_intervention w = same_kind Dollar w.kind && (are_equal w.bytes (codes "$DEL") || are_equal w.bytes (codes "$APPLY"))
 
 -- a word that passes a test
 abbrev pub passing : (Word → Bool) → Word → Option (Unit {0})
@@ -48,15 +51,15 @@ abbrev pub brackets : List TokenKind
 brackets = Symbol 40 ∷ Symbol 41 ∷ Symbol 91 ∷ Symbol 93 ∷ Symbol 123 ∷ Symbol 125 ∷ []
 
 -- Links in a declaration have any words but brackets and `%token`, skipped declarations and rates any but those that begin
--- with `%` and arrows, and `%mod` no intervention.
+-- with `%` and arrows, and between the `$` words of `%mod` there are none of these.
 abbrev pub run_kinds : Run → Kinds
 run_kinds Links = but brackets
-run_kinds _ = but (Percent ∷ Arrow ∷ BothArrow ∷ [])
+run_kinds Mod = but (Percent ∷ Arrow ∷ BothArrow ∷ Dollar ∷ [])
+run_kinds Rate = but (Percent ∷ Arrow ∷ BothArrow ∷ [])
 
 abbrev pub run_test : Run → Word → Bool
 run_test Links w = not (is_keyword (codes "%token") w)
-run_test Mod w = not (is_intervention w)
-run_test Rate w = true
+run_test _ w = true
 
 abbrev pub run_of : Run → Rule (Unit {0})
 run_of which = run (run_kinds which) (run_test which) ▹ λ some. give tt
@@ -96,6 +99,19 @@ count_at _ = None
 
 abbrev pub count_of : Word → Option Bool
 count_of w = count_at w.kind
+
+-- what a word with `$` begins: an addition, or nothing where it isn't an intervention
+abbrev pub dollar_at : TokenKind → Word → Option DollarWord
+dollar_at Dollar w =
+    if is_intervention w then None else Some (if are_equal w.bytes (codes "$ADD") then Addition w.span.start else Other)
+dollar_at _ w = None
+
+abbrev pub dollar_of : Word → Option DollarWord
+dollar_of w = dollar_at w.kind w
+
+-- where `)` ends
+abbrev pub closing_of : Word → Option ℕ
+closing_of w = if same_kind (Symbol 41) w.kind then Some w.span.end else None
 
 abbrev pub keyword_of : Word → Option Keyword
 keyword_of w =
@@ -155,9 +171,63 @@ abbrev pub closed : Bool → Rule (Unit {0})
 closed true = symbol 41
 closed false = give tt
 
+abbrev pub agents : Rule (List AgentText)
+agents = listed_some (only (Name ∷ [])) (agent false)
+
 abbrev pub init_agents : Rule (List AgentText)
 init_agents =
-    symbol 58 ▹ λ colon. counted ▹ λ after_open. listed_some (only (Name ∷ [])) (agent false) ▹ λ some. closed after_open ▹ λ closing. give some
+    symbol 58 ▹ λ colon. counted ▹ λ after_open. agents ▹ λ some. closed after_open ▹ λ closing. give some
+
+-- ---- additions: `$ADD`, a count, and agents, which go on without parentheses as long as, behind a comma or not, a name and `(` follow
+
+abbrev pub begins_agent : List Word → Bool
+begins_agent ws = starts (only (Name ∷ [])) ws && starts (only (Symbol 40 ∷ [])) (rest ws)
+
+abbrev pub agent_follows : List Word → Bool
+agent_follows ws = begins_agent (past_comma ws)
+
+abbrev pub closing : Rule ℕ
+closing = word closing_of
+
+-- an agent, and the offset where it ends
+abbrev pub ended_agent : Rule EndedAgent
+ended_agent =
+    name ▹ λ n. symbol 40 ▹ λ opening. sites false ▹ λ some. closing ▹ λ end.
+    give (record { agent = record { name = n; sites = some; mark = Plain }; end = end })
+
+-- where the last of some agents ends, or what stands before them
+abbrev pub last_end : ℕ → List EndedAgent → ℕ
+last_end end [] = end
+last_end end (x ∷ xs) = last_end x.end xs
+
+-- the complex of an addition that begins at an offset, in parentheses or not, and the skipped words behind it
+abbrev pub added : ℕ → Bool → Rule InitDecl
+added start true =
+    agents ▹ λ some. closing ▹ λ end. run_of Mod ▹ λ none.
+    give (record { start = record { start = start; end = end }; agents = some })
+added start false =
+    ended_agent ▹ λ x. as_long_as agent_follows (behind_comma ended_agent) (run_of Mod) ▹ λ xs.
+    give (record {
+      start = record { start = start; end = last_end x.end xs };
+      agents = map (λ (y : EndedAgent). y.agent) (x ∷ xs);
+    })
+
+abbrev pub addition : ℕ → Rule InitDecl
+addition start = counted ▹ λ after_open. added start after_open
+
+-- what stands behind a word with `$`, up to the next one
+abbrev pub behind_dollar : DollarWord → Rule (List Decl)
+behind_dollar (Addition start) = addition start ▹ λ d. give (decl.Add d ∷ [])
+behind_dollar Other = run_of Mod ▹ λ none. give []
+
+abbrev pub dollar_part : Rule (List Decl)
+dollar_part = word dollar_of ▹ λ w. behind_dollar w
+
+abbrev pub dollar_parts : Rule (List Decl)
+dollar_parts = many (only (Dollar ∷ [])) dollar_part ▹ λ some. give (flat_map (λ ds. ds) some)
+
+abbrev pub mod_text : Rule (List Decl)
+mod_text = symbol 58 ▹ λ colon. run_of Mod ▹ λ none. dollar_parts
 
 -- ---- rules
 
@@ -210,20 +280,20 @@ rule_text =
 
 -- ---- one declaration
 
--- what a declaration says hangs on the span of all its words
+-- What a declaration says hangs on the span of all its words. A skipped one says nothing, and `%mod` may say several things.
 abbrev pub Said : Type 0
-Said = Span → Option Decl
+Said = Span → List Decl
 
 abbrev pub behind_keyword : Keyword → Rule Said
-behind_keyword keyword.Agent = agent_text ▹ λ a. give (λ start. Some (decl.Agent a))
-behind_keyword keyword.Init = init_agents ▹ λ some. give (λ start. Some (decl.Init (record { start = start; agents = some })))
-behind_keyword keyword.Mod = run_of Mod ▹ λ some. give (λ start. None)
-behind_keyword keyword.Skipped = run_of Rate ▹ λ some. give (λ start. None)
+behind_keyword keyword.Agent = agent_text ▹ λ a. give (λ start. decl.Agent a ∷ [])
+behind_keyword keyword.Init = init_agents ▹ λ some. give (λ start. decl.Init (record { start = start; agents = some }) ∷ [])
+behind_keyword keyword.Mod = mod_text ▹ λ some. give (λ start. some)
+behind_keyword keyword.Skipped = run_of Rate ▹ λ some. give (λ start. [])
 
 abbrev pub declaration : Rule Said
 declaration =
     by_first (only (Percent ∷ [])) (word keyword_of ▹ λ k. behind_keyword k)
-    (rule_text ▹ λ text. give (λ start. Some (decl.Rule (text start))))
+    (rule_text ▹ λ text. give (λ start. decl.Rule (text start) ∷ []))
 
 -- ---- all words of a declaration
 
@@ -236,9 +306,9 @@ abbrev pub span_of : List Word → Span
 span_of [] = record { start = 0; end = 0 }
 span_of (w ∷ ws) = record { start = w.span.start; end = end_of w ws }
 
--- the words are this declaration, none where it is skipped
-abbrev pub IsDeclaration : List Word → Option Decl → Type 0
-IsDeclaration ws d = (said : Said) × declaration.Is ws said × (d ≡ said (span_of ws))
+-- the words are a declaration that says this
+abbrev pub IsDeclaration : List Word → List Decl → Type 0
+IsDeclaration ws given = (said : Said) × declaration.Is ws said × (given ≡ said (span_of ws))
 
 -- nothing is left
 abbrev pub all_read : {A : Type 0} → A → List Word → Outcome A
@@ -249,5 +319,5 @@ abbrev pub read_declaration : List Word → Outcome Said
 read_declaration ws = behind (declaration.read ws) (λ said left. all_read said left)
 
 -- what a declaration with this span says
-abbrev pub said_of : Span → Outcome Said → Outcome (Option Decl)
+abbrev pub said_of : Span → Outcome Said → Outcome (List Decl)
 said_of start o = behind o (λ said left. got (said start) left)

@@ -1,5 +1,5 @@
 -- What a text's tokens give: its declarations, or the first fault.
-use Rattle.std.specs.Prelude.{◌≡◌, ℕ, List, [], ◌∷◌, length, Option, Some, None, Result, Ok, Err}
+use Rattle.std.specs.Prelude.{◌≡◌, ℕ, List, [], ◌∷◌, ◌++◌, length, Result, Ok, Err}
 use Rattle.kasa_syntax.specs.declared.tokens.Token.{Token}
 use Rattle.kasa_syntax.specs.declared.decls.Decl.{Decl}
 use Rattle.kasa_parser.specs.declared.ParseFault.{ParseFault}
@@ -12,15 +12,10 @@ use Rattle.kasa_parser.specs.Steps.{fault_of}
 
 -- ---- the whole text
 
--- what a declaration gives stands before what the others give
-abbrev pub with_declared : Option Decl → List Decl → List Decl
-with_declared None decls = decls
-with_declared (Some d) decls = d ∷ decls
-
 pub data Parses (text : List ℕ) : List Declaration → Result (List Decl) ParseFault → Type 0 where
   ended : Parses text [] (Ok [])
-  read : {d : Declaration} {ds : List Declaration} {decls : List Decl} (given : Option Decl) → IsDeclaration d.words given → Parses text ds (Ok decls) → Parses text (d ∷ ds) (Ok (with_declared given decls))
-  fault_later : {d : Declaration} {ds : List Declaration} {fault : ParseFault} (given : Option Decl) → IsDeclaration d.words given → Parses text ds (Err fault) → Parses text (d ∷ ds) (Err fault)
+  read : {d : Declaration} {ds : List Declaration} {decls : List Decl} (given : List Decl) → IsDeclaration d.words given → Parses text ds (Ok decls) → Parses text (d ∷ ds) (Ok (given ++ decls))
+  fault_later : {d : Declaration} {ds : List Declaration} {fault : ParseFault} (given : List Decl) → IsDeclaration d.words given → Parses text ds (Err fault) → Parses text (d ∷ ds) (Err fault)
   fault_here : {d : Declaration} {ds : List Declaration} (fault : ParseFault) → IsFault text d.words d.ending fault → Parses text (d ∷ ds) (Err fault)
 
 -- the only outcome of a text's tokens
@@ -31,14 +26,14 @@ pub record IsOutcome (text : List ℕ) (tokens : List Token) (outcome : Result (
 -- ---- reading the whole text
 
 -- what a declaration gives
-abbrev pub declaration_from : List Word → Outcome (Option Decl)
+abbrev pub declaration_from : List Word → Outcome (List Decl)
 declaration_from ws = said_of (span_of ws) (read_declaration ws)
 
-abbrev pub with_more : Option Decl → Result (List Decl) ParseFault → Result (List Decl) ParseFault
-with_more given (Ok decls) = Ok (with_declared given decls)
+abbrev pub with_more : List Decl → Result (List Decl) ParseFault → Result (List Decl) ParseFault
+with_more given (Ok decls) = Ok (given ++ decls)
 with_more given (Err fault) = Err fault
 
-abbrev pub with_read : List ℕ → Declaration → Outcome (Option Decl) → Result (List Decl) ParseFault → Result (List Decl) ParseFault
+abbrev pub with_read : List ℕ → Declaration → Outcome (List Decl) → Result (List Decl) ParseFault → Result (List Decl) ParseFault
 with_read text d (got given left) more = with_more given more
 with_read text d (stuck left) more = Err (fault_of text d.ending d.words left)
 

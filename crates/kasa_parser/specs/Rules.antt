@@ -1,6 +1,6 @@
 -- The parts that a grammar is made of. A rule says which words are which tree (`Is`), and how words are read from the left
 -- (`read`). The laws of `proofs/RuleLaws` say, for each part, that the second finds what the first says.
-use Rattle.std.specs.Prelude.{◌≡◌, ◌⊎◌, ℕ, zero, suc, List, [], ◌∷◌, ◌++◌, length, if◌then◌else◌, Option, Some, None}
+use Rattle.std.specs.Prelude.{◌≡◌, ◌⊎◌, ℕ, zero, suc, List, [], ◌∷◌, ◌++◌, length, Bool, false, if◌then◌else◌, Option, Some, None}
 use Rattle.kasa_syntax.specs.declared.tokens.TokenKind.TheVariants.{Symbol}
 use Rattle.kasa_parser.specs.Words.{Word, Kinds, only, ◌or◌, same_kind, starts, rest}
 
@@ -58,15 +58,23 @@ abbrev pub AreMany : {A : Type 0} → (List Word → A → Type 0) → List Word
 AreMany IsOne ws [] = ws ≡ []
 AreMany IsOne ws (x ∷ xs) = (a b : List Word) × IsOne a x × AreMany IsOne b xs × (ws ≡ a ++ b)
 
--- at most so many
-abbrev pub read_many : {A : Type 0} → Kinds → (List Word → Outcome A) → ℕ → List Word → Outcome (List A)
-read_many kinds one zero ws = got [] ws
-read_many kinds one (suc most) ws =
-    if starts kinds ws then behind (one ws) (λ x left. behind (read_many kinds one most left) (λ xs last. got (x ∷ xs) last))
+-- as long as the words to come pass a test, and at most so many
+abbrev pub read_many : {A : Type 0} → (List Word → Bool) → (List Word → Outcome A) → ℕ → List Word → Outcome (List A)
+read_many goes one zero ws = got [] ws
+read_many goes one (suc most) ws =
+    if goes ws then behind (one ws) (λ x left. behind (read_many goes one most left) (λ xs last. got (x ∷ xs) last))
     else got [] ws
 
 abbrev pub many : {A : Type 0} → Kinds → Rule A → Rule (List A)
-many kinds r = record { Is = AreMany r.Is; read = λ ws. read_many kinds r.read (length ws) ws }
+many kinds r = record { Is = AreMany r.Is; read = λ ws. read_many (starts kinds) r.read (length ws) ws }
+
+-- ---- one after another of the same rule, and then words of another one that don't pass a test of more than their first word
+
+abbrev pub as_long_as : {A : Type 0} → (List Word → Bool) → Rule A → Rule (Unit {0}) → Rule (List A)
+as_long_as goes r s = record {
+  Is = λ ws xs. (a b : List Word) × AreMany r.Is a xs × s.Is b tt × (goes b ≡ false) × (ws ≡ a ++ b);
+  read = λ ws. behind (read_many goes r.read (length ws) ws) (λ xs left. behind (s.read left) (λ none last. got xs last));
+}
 
 -- ---- made of these
 

@@ -1,5 +1,5 @@
 -- Splitting tokens into declarations, in one pass: which declarations are due where some of the tokens have been taken.
-use Rattle.std.specs.Prelude.{ℕ, ◌≤◌, List, [], ◌∷◌, ◌++◌, map, if◌then◌else◌, Option, Some, None, Result, Ok, Err}
+use Rattle.std.specs.Prelude.{ℕ, ◌≤◌, List, [], ◌++◌, map, if◌then◌else◌, Option, Some, None, Result, Ok, Err}
 use Rattle.std.specs.List.{AllByRecursion}
 use Rattle.kasa_parser.specs.declared.split.Declared.{Declared}
 use Rattle.kasa_parser.specs.declared.split.Split.{Split}
@@ -44,7 +44,3 @@ with_done done (Err fault) = Err fault
 
 abbrev pub read_behind : List ℕ → List Decl → List Declaration → Result (List Decl) ParseFault
 read_behind text done declared = with_done done (read_all text declared)
-
-abbrev pub given_list : Option Decl → List Decl
-given_list None = []
-given_list (Some d) = d ∷ []

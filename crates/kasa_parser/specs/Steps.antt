@@ -6,6 +6,7 @@ use Rattle.kasa_parser.specs.declared.reader.Stop.{Stop}
 use Rattle.kasa_parser.specs.declared.reader.Stop.TheVariants.{NoMemory, Stuck}
 use Rattle.kasa_num.specs.declared.Place.{Place}
 use Rattle.kasa_syntax.specs.Place.{place_at}
+use Rattle.kasa_syntax.specs.declared.decls.Decl.{Decl}
 use Rattle.kasa_syntax.specs.declared.tokens.TokenKind.TheVariants.{Percent, Symbol}
 use Rattle.kasa_parser.specs.declared.ParseFault.{ParseFault}
 use Rattle.kasa_parser.specs.declared.ParseFault.TheVariants.{Unexpected, Tokens, Intervention, LongLabel}
@@ -23,6 +24,17 @@ abbrev pub Gives : {A : Type 0} → Outcome A → Result A Stop → List Word �
 Gives outcome (Ok x) left = outcome ≡ got x left
 Gives outcome (Err NoMemory) left = Unit {0}
 Gives outcome (Err Stuck) left = outcome ≡ stuck left
+
+-- declarations, and what more the outcome gives
+abbrev pub onto : List Decl → Outcome (List Decl) → Outcome (List Decl)
+onto done (got given left) = got (done ++ given) left
+onto done (stuck left) = stuck left
+
+-- Behind these declarations a step gives those that the outcome adds to them, with the words that are left then.
+abbrev pub Adds : Outcome (List Decl) → List Decl → Result (Unit {0}) Stop → List Decl → List Word → Type 0
+Adds outcome done (Ok none) new left = onto done outcome ≡ got new left
+Adds outcome done (Err NoMemory) new left = Unit {0}
+Adds outcome done (Err Stuck) new left = onto done outcome ≡ stuck left
 
 abbrev pub first : List Word → Option Word
 first [] = None

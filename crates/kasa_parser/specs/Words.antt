@@ -1,5 +1,5 @@
 -- The words of a text: its tokens with their bytes.
-use Rattle.std.specs.Prelude.{ℕ, ◌-◌, List, [], ◌∷◌, ◌++◌, map, take, drop, Bool, true, false, not, ◌==◌, ◌||◌, ◌&&◌}
+use Rattle.std.specs.Prelude.{ℕ, ◌-◌, List, [], ◌∷◌, ◌++◌, map, take, drop, Bool, true, false, not, if◌then◌else◌, ◌==◌, ◌||◌, ◌&&◌}
 use Rattle.std.specs.List.{list_any, filter}
 use Rattle.kasa_syntax.specs.declared.tokens.Span.{Span}
 use Rattle.kasa_syntax.specs.declared.tokens.Token.{Token}
@@ -75,6 +75,10 @@ begins_with test (w ∷ ws) = test w
 abbrev pub rest : List Word → List Word
 rest [] = []
 rest (w ∷ ws) = ws
+
+-- the words behind a comma that stands first, or all
+abbrev pub past_comma : List Word → List Word
+past_comma ws = if starts (only (Symbol 44 ∷ [])) ws then rest ws else ws
 
 abbrev pub are_digits : List ℕ → Bool
 are_digits bytes = not (list_any (λ b. not (is_digit b)) bytes)

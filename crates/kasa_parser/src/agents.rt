@@ -122,7 +122,7 @@ impl<'a> Reader<'a> {
     }
 
     // The sites of an agent.
-    fn sites(&mut self, alloc: Global, edit: bool) -> Result<SiteTexts, Stop>
+    pub fn sites(&mut self, alloc: Global, edit: bool) -> Result<SiteTexts, Stop>
         ensures { Gives ((sites edit).read self.old) result self.new }
     {
         let mut sites = Vec::new(alloc);

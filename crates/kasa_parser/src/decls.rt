@@ -1,11 +1,10 @@
 // Declarations.
-ghost use Rattle.std.specs.Prelude.{◌≡◌, ◌∷◌, [], true, false};
+ghost use Rattle.std.specs.Prelude.{◌≡◌, ◌∷◌, []};
 ghost use Rattle.std.specs.List.{list_any};
 ghost use Rattle.kasa_syntax.specs.declared.tokens.TokenKind.TheVariants.{Name as name_kind, Number as number_kind, Quoted as quoted_kind, Percent as percent_kind, Arrow as arrow_kind, BothArrow as both_kind, Symbol as symbol_kind};
 ghost use Rattle.kasa_parser.specs.Words.{Word, starts, only, has};
-ghost use Rattle.kasa_parser.specs.Rules.{got, behind, listed_some, maybe, word};
-ghost use Rattle.kasa_parser.specs.Grammar.{agent};
-ghost use Rattle.kasa_parser.specs.Decls.{is_edited_site, is_mark, is_edited, state_names, states, links, site_decls, agent_text, init_agents, rule_text, states_or_none, site_decl, quoted_of, state_name_of, last_or, counted, run_of, run_kinds, run_test, closed, arrow, body_behind, body, rate, count};
+ghost use Rattle.kasa_parser.specs.Rules.{got, behind, maybe, word};
+ghost use Rattle.kasa_parser.specs.Decls.{is_edited_site, is_mark, is_edited, state_names, states, links, site_decls, agent_text, agents, init_agents, rule_text, states_or_none, site_decl, quoted_of, state_name_of, last_or, counted, run_of, run_kinds, run_test, closed, arrow, body_behind, body, rate, count};
 ghost use Rattle.kasa_parser.specs.Steps.{Gives};
 
 use crate::reader::{Reader, Stop};
@@ -78,7 +77,7 @@ impl<'a> Reader<'a> {
     }
 
     // Passes a count, and says whether its last word is `(`.
-    fn count(&mut self) -> Result<bool, Stop>
+    pub fn count(&mut self) -> Result<bool, Stop>
         ensures { Gives (counted.read self.old) result self.new }
     {
         let mut after_open = false;
@@ -215,8 +214,8 @@ impl<'a> Reader<'a> {
         if is_open { self.symbol(b')') } else { Ok(()) }
     }
 
-    fn agents(&mut self, alloc: Global) -> Result<AgentTexts, Stop>
-        ensures { Gives ((listed_some (only (name_kind ∷ [])) (agent false)).read self.old) result self.new }
+    pub fn agents(&mut self, alloc: Global) -> Result<AgentTexts, Stop>
+        ensures { Gives (agents.read self.old) result self.new }
     {
         let mut agents = Vec::new(alloc);
         agents.push(self.agent(alloc, false)?)?;

@@ -1,5 +1,5 @@
 // Laws of the grammar, and of what a text's tokens give.
-ghost use Rattle.std.specs.Prelude.{◌≡◌, List, ℕ, Option, Result};
+ghost use Rattle.std.specs.Prelude.{◌≡◌, List, ℕ, Result};
 ghost use Rattle.kasa_syntax.specs.declared.decls.Decl.{Decl};
 ghost use Rattle.kasa_parser.specs.declared.ParseFault.{ParseFault};
 ghost use Rattle.kasa_parser.specs.Words.{Word};
@@ -16,9 +16,9 @@ pub fn declarations_are_parts_of_their_text()
     ensures { (size : ℕ) (words : List Word) → AreParts size words (declarations_of size words) }
 {}
 
-/// The same words are no two declarations.
+/// The same words say one thing at most.
 pub fn words_are_one_declaration_at_most()
-    ensures { (words : List Word) (one other : Option Decl) → IsDeclaration words one → IsDeclaration words other → one ≡ other }
+    ensures { (words : List Word) (one other : List Decl) → IsDeclaration words one → IsDeclaration words other → one ≡ other }
 {}
 
 /// A declaration has no two faults: its words are cut at one place, and the causes exclude one

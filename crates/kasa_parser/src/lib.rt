@@ -1,6 +1,7 @@
 //! From the tokens of a text to its declarations, or the first fault.
 #![tactic(auto)]
 
+mod additions;
 mod agents;
 mod decls;
 mod laws;
@@ -30,7 +31,7 @@ pub enum ParseFault {
     /// `%token`, or `|` where an item may stand: tokens aren't part of the language that is read.
     #[error("tokens are not read")]
     Tokens(Place),
-    /// `$ADD`, `$DEL` or `$APPLY`: interventions aren't part of the language that is read.
+    /// `$DEL` or `$APPLY`: of the interventions only `$ADD` is part of the language that is read.
     #[error("interventions are not read")]
     Intervention(Place),
     /// The label of a bond above 65,535.

@@ -1,14 +1,13 @@
 // From the tokens of declarations to what they say, or the first fault.
 
-ghost use Rattle.std.specs.Prelude.{◌≡◌, ◌≢◌, ◌≤◌, ◌++◌, ◌∷◌, List, [], None, Ok, Err, OnOk, IfOk, IfErr, length};
+ghost use Rattle.std.specs.Prelude.{◌≡◌, ◌≢◌, ◌≤◌, ◌++◌, ◌∷◌, List, Ok, Err, OnOk, IfOk, IfErr, length};
 ghost use Rattle.kasa_lexer.specs.Tokens.{IsOutcome as IsLexed};
-ghost use Rattle.kasa_syntax.specs.declared.decls.Decl.{Decl as SpecDecl};
 ghost use Rattle.kasa_parser.specs.Words.{Word as SpecWord, words_of};
 ghost use Rattle.kasa_parser.specs.Decls.{said_of, declaration, behind_keyword, span_of};
 ghost use Rattle.kasa_parser.specs.Declarations.{Declaration};
 ghost use Rattle.kasa_parser.specs.Parses.{IsOutcome, declaration_from, read_all};
-ghost use Rattle.kasa_parser.specs.Steps.{AreWithin, Gives, can_go_on, fault_at, fault_of, IsLeft};
-ghost use Rattle.kasa_parser.specs.Split.{declaration_of, given_of, AllWithin, read_behind, given_list};
+ghost use Rattle.kasa_parser.specs.Steps.{AreWithin, Adds, can_go_on, fault_at, fault_of, IsLeft};
+ghost use Rattle.kasa_parser.specs.Split.{declaration_of, given_of, AllWithin, read_behind};
 ghost use Rattle.kasa_parser.specs.declared.ParseFault.TheVariants.{NoMemory as no_memory};
 
 use crate::ParseFault;
@@ -26,54 +25,51 @@ impl<'a> Reader<'a> {
         alloc: Global,
         keyword: Keyword,
         start: Span,
-    ) -> Result<Option<Decl>, Stop>
-        ensures { Gives (said_of start ((behind_keyword keyword).read self.old)) result self.new }
+        decls: &mut Vec<Decl>,
+    ) -> Result<(), Stop>
+        ensures { Adds (said_of start ((behind_keyword keyword).read self.old)) decls.old.items result decls.new.items self.new }
     {
         match keyword {
-            Keyword::Agent => Ok(Some(Decl::Agent(self.agent_decl(alloc)?))),
+            Keyword::Agent => decls.push(Decl::Agent(self.agent_decl(alloc)?))?,
             Keyword::Init => {
                 let agents = self.init(alloc)?;
-                Ok(Some(Decl::Init(InitDecl { start, agents })))
+                decls.push(Decl::Init(InitDecl { start, agents }))?;
             }
-            Keyword::Mod => {
-                self.run(Run::Mod)?;
-                Ok(None)
-            }
-            Keyword::Skipped => {
-                self.run(Run::Rate)?;
-                Ok(None)
-            }
+            Keyword::Mod => self.mod_text(alloc, decls)?,
+            Keyword::Skipped => self.run(Run::Rate)?,
         }
+        Ok(())
     }
 
-    // What the first words say, where the declaration has this span.
-    fn said(&mut self, alloc: Global, start: Span) -> Result<Option<Decl>, Stop>
-        ensures { Gives (said_of start (declaration.read self.old)) result self.new }
+    // Adds what the first words say, where the declaration has this span.
+    fn said(&mut self, alloc: Global, start: Span, decls: &mut Vec<Decl>) -> Result<(), Stop>
+        ensures { Adds (said_of start (declaration.read self.old)) decls.old.items result decls.new.items self.new }
     {
         let Some(word) = self.peek() else {
             return Err(Stop::Stuck);
         };
         if !word.is_percent() {
-            return Ok(Some(Decl::Rule(self.rule(alloc, start)?)));
+            decls.push(Decl::Rule(self.rule(alloc, start)?))?;
+            return Ok(());
         }
         let Some(keyword) = word.keyword() else {
             return Err(Stop::Stuck);
         };
         self.advance();
-        self.behind_keyword(alloc, keyword, start)
+        self.behind_keyword(alloc, keyword, start, decls)
     }
 
-    // The declaration, None where it is skipped.
-    fn declaration(&mut self, alloc: Global) -> Result<Option<Decl>, Stop>
-        ensures { Gives (declaration_from self.old) result self.new }
+    // Adds what the declaration says.
+    fn declaration(&mut self, alloc: Global, decls: &mut Vec<Decl>) -> Result<(), Stop>
+        ensures { Adds (declaration_from self.old) decls.old.items result decls.new.items self.new }
     {
         if self.peek().is_none() {
             return Err(Stop::Stuck);
         }
         let start = self.span();
-        let said = self.said(alloc, start)?;
+        self.said(alloc, start, decls)?;
         self.end()?;
-        Ok(said)
+        Ok(())
     }
 }
 
@@ -112,8 +108,9 @@ fn can_go_on(alloc: Global, text: &[u8], before: &[Token], more: &[Token]) -> Re
     let mut tokens = Vec::from_slice(alloc, before)?;
     tokens.extend_from_slice(more)?;
     let mut reader = Reader::new(text, tokens.as_slice());
-    match reader.declaration(alloc) {
-        Ok(_) => Ok(true),
+    let mut decls = Vec::new(alloc);
+    match reader.declaration(alloc, &mut decls) {
+        Ok(()) => Ok(true),
         Err(Stop::NoMemory) => Err(NoMemory),
         Err(Stop::Stuck) => Ok(reader.peek().is_none()),
     }
@@ -165,29 +162,24 @@ fn fault_of(alloc: Global, text: &[u8], one: &Declared, left: &Reader) -> ParseF
     }
 }
 
-// What a declaration gives.
-fn read_one(alloc: Global, text: &[u8], one: &Declared) -> Result<Option<Decl>, ParseFault>
+// Adds what a declaration gives.
+fn read_one(
+    alloc: Global,
+    text: &[u8],
+    one: &Declared,
+    decls: &mut Vec<Decl>,
+) -> Result<(), ParseFault>
     requires few { length text.now ≤ 4194304 }
     requires tokens { AreWithin (length text.now) one.now.tokens.items }
     requires ending { one.now.ending ≤ length text.now }
-    ensures ok { IfOk result (λ given. (done : List SpecDecl) (more : List Declaration) → read_behind text.now done (declaration_of text.now one.now ∷ more) ≡ read_behind text.now (done ++ given_list given) more) }
-    ensures err { IfErr result (λ fault. fault ≢ no_memory → (done : List SpecDecl) (more : List Declaration) → read_behind text.now done (declaration_of text.now one.now ∷ more) ≡ Err fault) }
+    ensures ok { OnOk result ((more : List Declaration) → read_behind text.now decls.old.items (declaration_of text.now one.now ∷ more) ≡ read_behind text.now decls.new.items more) }
+    ensures err { IfErr result (λ fault. fault ≢ no_memory → (more : List Declaration) → read_behind text.now decls.old.items (declaration_of text.now one.now ∷ more) ≡ Err fault) }
 {
     let mut reader = Reader::new(text, one.tokens.as_slice());
-    match reader.declaration(alloc) {
-        Ok(given) => Ok(given),
+    match reader.declaration(alloc, decls) {
+        Ok(()) => Ok(()),
         Err(Stop::NoMemory) => Err(ParseFault::NoMemory),
         Err(Stop::Stuck) => Err(fault_of(alloc, text, one, &reader)),
-    }
-}
-
-fn push_given(decls: &mut Vec<Decl>, given: Option<Decl>) -> Result<(), ParseFault>
-    ensures ok { OnOk result (decls.new.items ≡ decls.old.items ++ given_list given) }
-    ensures err { IfErr result (λ fault. fault ≡ no_memory) }
-{
-    match given {
-        None => Ok(()),
-        Some(decl) => decls.push(decl).map_err(|_| ParseFault::NoMemory),
     }
 }
 
@@ -200,8 +192,7 @@ fn read_each(alloc: Global, text: &[u8], declared: &[Declared]) -> Result<Vec<De
 {
     let mut decls = Vec::new(alloc);
     for one in declared {
-        let given = read_one(alloc, text, one)?;
-        push_given(&mut decls, given)?;
+        read_one(alloc, text, one, &mut decls)?;
     }
     Ok(decls)
 }

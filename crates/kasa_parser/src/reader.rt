@@ -1,11 +1,11 @@
 // A reader of words, from the left.
-ghost use Rattle.std.specs.Prelude.{◌≡◌, ◌∷◌, [], true, length, if◌then◌else◌};
-ghost use Rattle.kasa_syntax.specs.declared.tokens.TokenKind.TheVariants.{Name as name_kind, Percent as percent_kind, Symbol as symbol_kind};
-ghost use Rattle.kasa_parser.specs.Words.{words_of, rest, starts, begins_with, only};
+ghost use Rattle.std.specs.Prelude.{◌≡◌, ◌∷◌, [], true, length};
+ghost use Rattle.kasa_syntax.specs.declared.tokens.TokenKind.TheVariants.{Name as name_kind, Percent as percent_kind, Dollar as dollar_kind, Symbol as symbol_kind};
+ghost use Rattle.kasa_parser.specs.Words.{words_of, rest, starts, begins_with, only, past_comma};
 ghost use Rattle.kasa_parser.specs.Grammar.{name};
 ghost use Rattle.kasa_parser.specs.Rules.{symbol};
 ghost use Rattle.kasa_parser.specs.Steps.{AreWithin, Gives, first, has_words};
-ghost use Rattle.kasa_parser.specs.Decls.{is_keyword, span_of, all_read};
+ghost use Rattle.kasa_parser.specs.Decls.{is_keyword, agent_follows, span_of, all_read};
 ghost use Rattle.kasa_parser.specs.declared.reader.Stop.TheVariants.{NoMemory as no_memory};
 
 use crate::word::Word;
@@ -120,6 +120,28 @@ impl<'a> Reader<'a> {
         }
     }
 
+    pub fn is_at_dollar(&self) -> bool
+        ensures { result ≡ starts (only (dollar_kind ∷ [])) self.now }
+    {
+        match self.peek() {
+            None => false,
+            Some(word) => word.is_dollar(),
+        }
+    }
+
+    // Behind a comma or not, a name and `(` follow.
+    pub fn is_at_next_agent(&self) -> bool
+        ensures { result ≡ agent_follows self.now }
+    {
+        let mut ahead = Reader::new(self.text, self.tokens);
+        ahead.pass_comma();
+        if !ahead.is_at_name() {
+            return false;
+        }
+        ahead.advance();
+        ahead.is_at(b'(')
+    }
+
     // How many words are left.
     pub fn len(&self) -> usize
         ensures { result ≡ length self.now }
@@ -129,7 +151,7 @@ impl<'a> Reader<'a> {
 
     // Passes a comma that stands first.
     pub fn pass_comma(&mut self)
-        ensures { self.new ≡ (if starts (only (symbol_kind 44 ∷ [])) self.old then rest self.old else self.old) }
+        ensures { self.new ≡ past_comma self.old }
     {
         if self.is_at(b',') {
             self.advance();

@@ -2,13 +2,13 @@
 ghost use Rattle.std.specs.Prelude.{◌≡◌, ◌∷◌, [], not};
 ghost use Rattle.std.specs.List.{list_any};
 ghost use Rattle.kasa_lexer.specs.Bytes.{is_digit};
-ghost use Rattle.kasa_syntax.specs.declared.tokens.TokenKind.TheVariants.{Name as name_kind, Number as number_kind, Percent as percent_kind, Arrow as arrow_kind, BothArrow as both_kind, Symbol as symbol_kind};
+ghost use Rattle.kasa_syntax.specs.declared.tokens.TokenKind.TheVariants.{Name as name_kind, Number as number_kind, Percent as percent_kind, Dollar as dollar_kind, Arrow as arrow_kind, BothArrow as both_kind, Symbol as symbol_kind};
 ghost use Rattle.kasa_parser.specs.Words.{are_digits, are_equal, is_of, has};
 ghost use Rattle.kasa_parser.specs.Steps.{is_long};
-ghost use Rattle.kasa_parser.specs.Decls.{is_keyword, is_intervention, brackets, run_kinds, run_test, arrow_of, count_of, state_name_of, quoted_of, keyword_of};
+ghost use Rattle.kasa_parser.specs.Decls.{is_keyword, is_intervention, brackets, run_kinds, run_test, arrow_of, count_of, state_name_of, quoted_of, dollar_of, closing_of, keyword_of};
 ghost use Rattle.kasa_parser.specs.Grammar.{label_number, label_link, link_of, name_of, state_of};
 
-use crate::run::{Keyword, Run};
+use crate::run::{DollarWord, Keyword, Run};
 use kasa_syntax::{LinkWord, Span, StateWord, TokenKind};
 use std::marker::Model;
 
@@ -163,9 +163,7 @@ impl<'a> Word<'a> {
     {
         match self.kind {
             TokenKind::Dollar => {
-                are_equal(self.bytes, b"$ADD")
-                    || are_equal(self.bytes, b"$DEL")
-                    || are_equal(self.bytes, b"$APPLY")
+                are_equal(self.bytes, b"$DEL") || are_equal(self.bytes, b"$APPLY")
             }
             _ => false,
         }
@@ -192,13 +190,20 @@ impl<'a> Word<'a> {
         matches!(self.kind, TokenKind::Percent)
     }
 
+    pub fn is_dollar(&self) -> bool
+        ensures { result ≡ is_of (dollar_kind ∷ []) self.now.kind }
+    {
+        matches!(self.kind, TokenKind::Dollar)
+    }
+
     // No run goes on with the word.
     pub fn ends_run(&self, which: Run) -> bool
         ensures { result ≡ not (has (run_kinds which) self.now.kind) }
     {
         match which {
             Run::Links => self.is_bracket(),
-            _ => self.is_percent() || self.is_arrow(),
+            Run::Mod => self.is_percent() || self.is_arrow() || self.is_dollar(),
+            Run::Rate => self.is_percent() || self.is_arrow(),
         }
     }
 
@@ -207,8 +212,7 @@ impl<'a> Word<'a> {
     {
         match which {
             Run::Links => !self.is_keyword(b"%token"),
-            Run::Mod => !self.is_intervention(),
-            Run::Rate => true,
+            Run::Mod | Run::Rate => true,
         }
     }
 
@@ -257,6 +261,29 @@ impl<'a> Word<'a> {
     {
         match self.kind {
             TokenKind::Quoted => Some(self.span),
+            _ => None,
+        }
+    }
+
+    // What the word with `$` begins, if it isn't an intervention.
+    pub fn dollar(&self) -> Option<DollarWord>
+        ensures { result ≡ dollar_of self.now }
+    {
+        if !self.is_dollar() || self.is_intervention() {
+            return None;
+        }
+        if are_equal(self.bytes, b"$ADD") {
+            return Some(DollarWord::Addition(self.span.start));
+        }
+        Some(DollarWord::Other)
+    }
+
+    // Where the word ends, if it is `)`.
+    pub fn closing(&self) -> Option<u32>
+        ensures { result ≡ closing_of self.now }
+    {
+        match self.kind {
+            TokenKind::Symbol(b')') => Some(self.span.end),
             _ => None,
         }
     }

@@ -20,7 +20,7 @@ use Rattle.kasa_syntax.specs.declared.decls.Item.TheVariants.{Absent, Agent as i
 use Rattle.kasa_syntax.specs.declared.decls.Form.{Form}
 use Rattle.kasa_syntax.specs.declared.decls.Form.TheVariants.{Edit, Arrow}
 use Rattle.kasa_syntax.specs.declared.decls.Decl.{Decl}
-use Rattle.kasa_syntax.specs.declared.decls.Decl.TheVariants.{Agent as decl_agent, Init, Rule}
+use Rattle.kasa_syntax.specs.declared.decls.Decl.TheVariants.{Agent as decl_agent, Init, Add, Rule}
 
 -- a name and the names of its owners, by their bytes, and where it stands
 pub data Mention : Type 0 where
@@ -53,6 +53,7 @@ declared_type text d = type_mention text d.name ∷ flat_map (declared_site text
 abbrev pub declared_by : List ℕ → Decl → List Mention
 declared_by text (decl_agent d) = declared_type text d
 declared_by text (Init d) = []
+declared_by text (Add d) = []
 declared_by text (Rule d) = []
 
 abbrev pub declared_names : List ℕ → List Decl → List Mention
@@ -61,9 +62,10 @@ declared_names text decls = flat_map (declared_by text) decls
 abbrev pub is_agent : Decl → Bool
 is_agent (decl_agent d) = true
 is_agent (Init d) = false
+is_agent (Add d) = false
 is_agent (Rule d) = false
 
--- ---- inits and rules
+-- ---- inits, additions and rules
 
 -- `#` names nothing
 abbrev pub used_state : List ℕ → List ℕ → List ℕ → StateWord → List Mention
@@ -138,6 +140,7 @@ used_body text (Arrow left right both) = flat_map (used_item text) left ++ flat_
 abbrev pub used_decl : List ℕ → Decl → List Mention
 used_decl text (decl_agent d) = []
 used_decl text (Init d) = flat_map (used_agent text) d.agents
+used_decl text (Add d) = flat_map (used_agent text) d.agents
 used_decl text (Rule d) = used_body text d.form
 
 abbrev pub used_names : List ℕ → List Decl → List Mention

@@ -63,6 +63,6 @@ unfoldable pub after : Source → List TypeEntry → List Mention → Result (Li
 after source sig [] = Ok sig
 after source sig (m ∷ ms) = go_on (step source sig m) (λ next. after source next ms)
 
--- what agent declarations say where one stands, and what inits and rules use where none does
+-- what agent declarations say where one stands, and what inits, additions and rules use where none does
 abbrev pub signature_of : List ℕ → List Decl → Result (List TypeEntry) SigFault
 signature_of text decls = if list_any is_agent decls then after Declarations [] (declared_names text decls) else after Uses [] (used_names text decls)

@@ -18,7 +18,7 @@ use Rattle.kasa_syntax.specs.declared.decls.Item.TheVariants.{Absent, Agent as i
 use Rattle.kasa_syntax.specs.declared.decls.Form.{Form}
 use Rattle.kasa_syntax.specs.declared.decls.Form.TheVariants.{Edit, Arrow}
 use Rattle.kasa_syntax.specs.declared.decls.Decl.{Decl}
-use Rattle.kasa_syntax.specs.declared.decls.Decl.TheVariants.{Agent as decl_agent, Init, Rule}
+use Rattle.kasa_syntax.specs.declared.decls.Decl.TheVariants.{Agent as decl_agent, Init, Add, Rule}
 use Rattle.kasa_sig.specs.Mentions.{word}
 
 -- the span lies within the text, and the word there may be the name of a type, a site or a state
@@ -37,7 +37,7 @@ pub record AgentDeclHasNames (text : List ℕ) (d : AgentDecl) : Type 0 where
   pub name : IsNameSpan text d.name
   pub sites : AllByRecursion (SiteDeclHasNames text) d.sites
 
--- ---- inits and rules
+-- ---- inits, additions and rules
 
 abbrev pub StateWordHasNames : List ℕ → StateWord → Type 0
 StateWordHasNames text Hash = Unit {0}
@@ -79,4 +79,5 @@ FormHasNames text (Arrow left right both) = AllByRecursion (ItemHasNames text) l
 abbrev pub DeclHasNames : List ℕ → Decl → Type 0
 DeclHasNames text (decl_agent d) = AgentDeclHasNames text d
 DeclHasNames text (Init d) = AllByRecursion (AgentHasNames text) d.agents
+DeclHasNames text (Add d) = AllByRecursion (AgentHasNames text) d.agents
 DeclHasNames text (Rule d) = FormHasNames text d.form

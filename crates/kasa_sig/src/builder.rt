@@ -16,8 +16,9 @@ use std::alloc::Global;
 /// The signature of a text of at most 4,194,304 bytes with these declarations, or the first name
 /// that is refused. Where an agent declaration stands, the signature is what they declare, and a
 /// name may not stand twice; where none does, types, sites and states are numbered in the order in
-/// which inits and rules name them first. `NoMemory` comes only where there is no memory for the
-/// signature. Names are found by their hashes, so the work grows with the length of the text.
+/// which inits, additions and rules name them first. `NoMemory` comes only where there is no memory
+/// for the signature. Names are found by their hashes, so the work grows with the length of the
+/// text.
 pub fn build(alloc: Global, text: &[u8], decls: &[Decl]) -> Result<Signature, SigFault>
     requires few { length text.now ≤ 4194304 }
     requires names { AllByRecursion (DeclHasNames text.now) decls.now }

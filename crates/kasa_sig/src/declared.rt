@@ -35,7 +35,7 @@ fn declare(sig: &mut Signature, text: &[u8], decl: &Decl) -> Result<(), SigFault
 {
     match decl {
         Decl::Agent(agent) => declare_type(sig, text, agent),
-        Decl::Init(_) | Decl::Rule(_) => Ok(()),
+        Decl::Init(_) | Decl::Add(_) | Decl::Rule(_) => Ok(()),
     }
 }
 

@@ -1,5 +1,5 @@
 //! The signature of a text: the types of agents, their sites and the states of these, as agent
-//! declarations give them, or else as inits and rules name them.
+//! declarations give them, or else as inits, additions and rules name them.
 #![tactic(auto)]
 
 mod builder;

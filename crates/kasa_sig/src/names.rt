@@ -11,7 +11,8 @@ use kasa_graph::Signature;
 use kasa_num::{AgentType, SiteNo};
 use kasa_syntax::{Span, place_of};
 
-// Where names come from: agent declarations, where none may stand twice, or inits and rules.
+// Where names come from: agent declarations, where none may stand twice, or inits, additions and
+// rules.
 #[derive(Clone, Copy)]
 pub enum Source {
     Declarations,

@@ -1,4 +1,4 @@
-// The names of inits and rules.
+// The names of inits, additions and rules.
 ghost use Rattle.std.specs.Prelude.{◌≡◌, ◌≢◌, ◌≤◌, length, Ok, Err, OnOk, IfErr};
 ghost use Rattle.std.specs.List.{AllByRecursion, flat_map};
 ghost use Rattle.kasa_sig.specs.declared.fault.SigFault.TheVariants.{NoMemory as no_memory};
@@ -16,7 +16,7 @@ use kasa_syntax::{
     AgentText, Decl, Form, Item, LinkText, LinkWord, SiteText, StateText, StateWord,
 };
 
-// Adds what inits and rules name.
+// Adds what inits, additions and rules name.
 pub fn add_used(sig: &mut Signature, text: &[u8], decls: &[Decl]) -> Result<(), SigFault>
     requires few { length text.now ≤ 4194304 }
     requires names { AllByRecursion (DeclHasNames text.now) decls.now }
@@ -38,6 +38,7 @@ fn use_decl(sig: &mut Signature, text: &[u8], decl: &Decl) -> Result<(), SigFaul
     match decl {
         Decl::Agent(_) => Ok(()),
         Decl::Init(init) => use_agents(sig, text, init.agents.as_slice()),
+        Decl::Add(addition) => use_agents(sig, text, addition.agents.as_slice()),
         Decl::Rule(rule) => use_body(sig, text, &rule.form),
     }
 }
