@@ -1,6 +1,6 @@
 -- The trees that the parser gives have names.
-use Rattle.std.proofs.Common.{◌≡◌, ℕ, List, [], ◌∷◌, ◌++◌, Bool, true, false, if◌then◌else◌, ◌==◌, ◌⊎◌, inl, inr, Option, Some, None, Ok, length, sym, subst}
-use Rattle.std.specs.List.{AllByRecursion, list_any}
+use Rattle.std.proofs.Common.{◌≡◌, ℕ, List, [], ◌∷◌, ◌++◌, map, Bool, true, false, if◌then◌else◌, ◌==◌, ◌⊎◌, inl, inr, Option, Some, None, Ok, length, sym, subst}
+use Rattle.std.specs.List.{AllByRecursion, flat_map, list_any}
 use Rattle.kasa_graph.proofs.SplitLemmas.{AllByRecursion-append}
 use Rattle.kasa_syntax.specs.declared.tokens.Span.{Span}
 use Rattle.kasa_syntax.specs.declared.tokens.Token.{Token}
@@ -10,19 +10,24 @@ use Rattle.kasa_syntax.specs.declared.agents.StateWord.TheVariants.{Hash, Named}
 use Rattle.kasa_syntax.specs.declared.agents.LinkWord.TheVariants as link
 use Rattle.kasa_syntax.specs.declared.agents.SiteText.{SiteText}
 use Rattle.kasa_syntax.specs.declared.decls.SiteDecl.{SiteDecl}
+use Rattle.kasa_syntax.specs.declared.decls.InitDecl.{InitDecl}
 use Rattle.kasa_syntax.specs.declared.decls.Item.{Item}
 use Rattle.kasa_syntax.specs.declared.decls.Item.TheVariants.{Absent}
 use Rattle.kasa_syntax.specs.declared.decls.Decl.{Decl}
 use Rattle.kasa_lexer.specs.Tokens.{IsOutcome as IsLexed}
 use Rattle.kasa_parser.specs.declared.run.Keyword.{Keyword}
 use Rattle.kasa_parser.specs.declared.run.Keyword.TheVariants as keyword
+use Rattle.kasa_parser.specs.declared.run.Run.TheVariants.{Mod}
+use Rattle.kasa_parser.specs.declared.run.DollarWord.{DollarWord}
+use Rattle.kasa_parser.specs.declared.run.DollarWord.TheVariants.{Addition, Other}
+use Rattle.kasa_parser.specs.declared.additions.EndedAgent.{EndedAgent}
 use Rattle.kasa_parser.specs.Words.{Word, Kinds, only, words_of, same_kind, are_digits}
-use Rattle.kasa_parser.specs.Rules.{Rule, give, stuck, AreMany, maybe, behind_comma, listed_some, listed, in_any_order}
+use Rattle.kasa_parser.specs.Rules.{Rule, give, stuck, AreMany, maybe, behind_comma, listed_some, listed, as_long_as, in_any_order}
 use Rattle.kasa_parser.specs.Grammar as grammar
 use Rattle.kasa_parser.specs.Decls as decls
 use Rattle.kasa_parser.specs.Decls.{state_name_at, Said}
 use Rattle.kasa_parser.specs.Declarations.{Declaration, is_break, last_kind, next_kind, ends_at, deeper, ended, declarations_from, declarations_of}
-use Rattle.kasa_parser.specs.Parses.{Parses, with_declared, IsOutcome as IsParsed}
+use Rattle.kasa_parser.specs.Parses.{Parses, IsOutcome as IsParsed}
 use Rattle.kasa_parser.specs.Parses.Parses.{ended as no_more, read}
 use Rattle.kasa_sig.specs.Words.{IsNameSpan, SiteDeclHasNames, AgentDeclHasNames, StateWordHasNames, LinkWordHasNames, IfGiven, StatesHaveNames, LinksHaveNames, SiteHasNames, AgentHasNames, ItemHasNames, FormHasNames, DeclHasNames}
 use Rattle.kasa_compile.proofs.WordNames.{IsNamed, AreNamed, words_named}
@@ -99,6 +104,12 @@ some_listed {text = text} {I = I} {Q = Q} one =
 
 all_listed : {A : Type 0} {text : List ℕ} {I : List Word → A → Type 0} {Q : A → Type 0} → Gives text I Q → Gives text (listed no_kinds (of I)).Is (AllByRecursion Q)
 all_listed one = either (some_listed one) (given tt)
+
+-- as long as a test of the words to come passes
+as_long : {A : Type 0} {text : List ℕ} {I : List Word → A → Type 0} {Q : A → Type 0} {goes : List Word → Bool} (r : Rule (Unit {0})) → Gives text I Q → Gives text (as_long_as goes (of I) r).Is (AllByRecursion Q)
+as_long {text = text} {I = I} {Q = Q} r one = record {
+  has = λ ws xs is named. let sides = cut text ws is.0 is.1 is.5 named in all_many text I Q one is.0 xs is.2 sides.0;
+}
 
 any_order : {A B C : Type 0} {text : List ℕ} {I : List Word → A → Type 0} {J : List Word → B → Type 0} {Q : A → Type 0} {R : B → Type 0} {S : C → Type 0} (f : Option A → Option B → C) →
     Gives text I Q → Gives text J R → ((x : Option A) (y : Option B) → IfGiven Q x → IfGiven R y → S (f x y)) → Gives text (in_any_order no_kinds (of I) no_kinds (of J) f).Is S
@@ -177,10 +188,42 @@ agent_text text =
     skip (λ colon. next (name text) (λ n named. skip (λ opening. next (all_listed (site_decl text)) (λ some sites. skip (λ closing.
     given (record { name = named; sites = sites }))))))
 
--- ---- inits and rules
+-- ---- inits, additions and rules
+
+agents : (text : List ℕ) → Gives text decls.agents.Is (AllByRecursion (AgentHasNames text))
+agents text = some_listed (agent text false)
 
 init_agents : (text : List ℕ) → Gives text decls.init_agents.Is (AllByRecursion (AgentHasNames text))
-init_agents text = skip (λ colon. skip (λ after_open. next (some_listed (agent text false)) (λ some have. skip (λ closing. given have))))
+init_agents text = skip (λ colon. skip (λ after_open. next (agents text) (λ some have. skip (λ closing. given have))))
+
+ended_agent : (text : List ℕ) → Gives text decls.ended_agent.Is (λ (x : EndedAgent). AgentHasNames text x.agent)
+ended_agent text =
+    next (name text) (λ n named. skip (λ opening. next (all_listed (site text false)) (λ some sites. skip (λ end.
+    given (record { name = named; sites = sites })))))
+
+without_ends : (text : List ℕ) (xs : List EndedAgent) → AllByRecursion (λ (x : EndedAgent). AgentHasNames text x.agent) xs → AllByRecursion (AgentHasNames text) (map (λ (x : EndedAgent). x.agent) xs)
+without_ends text [] all = tt
+without_ends text (x ∷ xs) all = (all.0, without_ends text xs all.1)
+
+added : (text : List ℕ) (start : ℕ) (opened : Bool) → Gives text (decls.added start opened).Is (λ (d : InitDecl). AllByRecursion (AgentHasNames text) d.agents)
+added text start true = next (agents text) (λ some have. skip (λ end. skip (λ none. given have)))
+added text start false =
+    next (ended_agent text) (λ x has. next (as_long (decls.run_of Mod) (either (skip (λ comma. ended_agent text)) (ended_agent text))) (λ xs have.
+    given (without_ends text (x ∷ xs) (has, have))))
+
+behind_dollar : (text : List ℕ) (w : DollarWord) → Gives text (decls.behind_dollar w).Is (AllByRecursion (DeclHasNames text))
+behind_dollar text (Addition start) = next (skip (λ after_open. added text start after_open)) (λ d have. given (have, tt))
+behind_dollar text Other = skip (λ none. given tt)
+
+joined : (text : List ℕ) (some : List (List Decl)) → AllByRecursion (AllByRecursion (DeclHasNames text)) some → AllByRecursion (DeclHasNames text) (flat_map (λ ds. ds) some)
+joined text [] all = tt
+joined text (ds ∷ more) all = AllByRecursion-append (DeclHasNames text) ds (flat_map (λ ds. ds) more) all.0 (joined text more all.1)
+
+mod_text : (text : List ℕ) → Gives text decls.mod_text.Is (AllByRecursion (DeclHasNames text))
+mod_text text =
+    skip (λ colon. skip (λ none.
+    next (record { has = all_many text decls.dollar_part.Is (AllByRecursion (DeclHasNames text)) (skip (λ w. behind_dollar text w)) }) (λ some have.
+    given (joined text some have))))
 
 arrow : (text : List ℕ) (left : List Item) → AllByRecursion (ItemHasNames text) left → Gives text (decls.arrow left).Is (FormHasNames text)
 arrow text left have = skip (λ both. next (items text false) (λ right also. given (have, also)))
@@ -194,18 +237,18 @@ body : (text : List ℕ) → Gives text decls.body.Is (FormHasNames text)
 body text = next (items text true) (λ some have. body_behind text (list_any decls.is_edited some) some have)
 
 abbrev SaidHasNames : List ℕ → Said → Type 0
-SaidHasNames text said = (span : Span) → IfGiven (DeclHasNames text) (said span)
+SaidHasNames text said = (span : Span) → AllByRecursion (DeclHasNames text) (said span)
 
 behind_keyword : (text : List ℕ) (k : Keyword) → Gives text (decls.behind_keyword k).Is (SaidHasNames text)
-behind_keyword text keyword.Agent = next (agent_text text) (λ a has. given (λ span. has))
-behind_keyword text keyword.Init = next (init_agents text) (λ some have. given (λ span. have))
-behind_keyword text keyword.Mod = skip (λ some. given (λ span. tt))
+behind_keyword text keyword.Agent = next (agent_text text) (λ a has. given (λ span. (has, tt)))
+behind_keyword text keyword.Init = next (init_agents text) (λ some have. given (λ span. (have, tt)))
+behind_keyword text keyword.Mod = next (mod_text text) (λ some have. given (λ span. have))
 behind_keyword text keyword.Skipped = skip (λ some. given (λ span. tt))
 
 declaration : (text : List ℕ) → Gives text decls.declaration.Is (SaidHasNames text)
 declaration text =
     either (skip (λ k. behind_keyword text k))
-    (next {Q = λ rule. (span : Span) → FormHasNames text (rule span).form} (skip (λ n. next (body text) (λ form has. skip (λ rate. given (λ span. has))))) (λ rule has. given has))
+    (next {Q = λ rule. (span : Span) → FormHasNames text (rule span).form} (skip (λ n. next (body text) (λ form has. skip (λ rate. given (λ span. has))))) (λ rule has. given (λ span. (has span, tt))))
 
 -- ---- the declarations of a text
 
@@ -233,8 +276,8 @@ parsed_names : (text : List ℕ) (ds : List Declaration) (trees : List Decl) →
 parsed_names text ds trees no_more named = tt
 parsed_names text ds trees (read {d = d} {ds = more} {decls = others} one (said, is, e) rest) named =
     let all = parsed_names text more others rest named.1 in
-    by_given (λ o. AllByRecursion (DeclHasNames text) (with_declared o others)) all (λ d has. (has, all)) one
-    (subst (IfGiven (DeclHasNames text)) (sym e) ((declaration text).has d.words said is named.0 (decls.span_of d.words)))
+    AllByRecursion-append (DeclHasNames text) one others
+    (subst (AllByRecursion (DeclHasNames text)) (sym e) ((declaration text).has d.words said is named.0 (decls.span_of d.words))) all
 
 -- the names of a text's tree are names
 pub tree_names : (text : List ℕ) (tokens : List Token) (trees : List Decl) → IsLexed text (Ok tokens) → IsParsed text tokens (Ok trees) → AllByRecursion (DeclHasNames text) trees

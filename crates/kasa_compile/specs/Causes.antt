@@ -1,4 +1,4 @@
--- The causes for which an init or a rule is refused, each with the offsets where it comes, in text order.
+-- The causes for which an init, an addition or a rule is refused, each with the offsets where it comes, in text order.
 use Rattle.std.specs.Prelude.{ℕ, Bool, true, false, ◌++◌, ◌&&◌, ◌||◌, not, List, [], ◌∷◌, Option, Some, None, option_map, nat_eq, nat_le, is_some, slice_get, if◌then◌else◌}
 use Rattle.std.specs.List.{flat_map}
 use Rattle.std.specs.Option.{option_map_or}
@@ -157,7 +157,7 @@ bad_right None None = []
 unfoldable pub bad_rights : List Pair → List ℕ
 bad_rights pairs = flat_map (λ (p : Pair). bad_right p.left p.right) pairs
 
--- ---- inits
+-- ---- declared complexes
 
 abbrev pub complex_causes : List AgentText → List Cause
 complex_causes agents =
@@ -166,7 +166,7 @@ complex_causes agents =
     ∷ record { fault = TooManyNodes; first = behind 200 agents }
     ∷ []
 
--- the causes of an init before which so many stand
+-- the causes of an init or addition before which so many of both stand
 abbrev pub init_causes : List ℕ → List TypeEntry → ℕ → InitDecl → List Cause
 init_causes text sig count d = name_causes text sig d.agents ++ (complex_causes d.agents ++ record { fault = TooManyInits; first = if_past (nat_le 1000 count) d.start.start } ∷ [])
 

@@ -1,4 +1,4 @@
--- The complex of an init.
+-- A declared complex.
 use Rattle.std.specs.Prelude.{ℕ, List, Option, Some, None}
 use Rattle.kasa_graph.specs.declared.mixture.Agent.{Agent}
 use Rattle.kasa_graph.specs.declared.mixture.AgentSite.{AgentSite}

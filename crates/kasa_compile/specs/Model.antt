@@ -1,6 +1,5 @@
 -- The model of a text, or the fault for which it has none.
-use Rattle.std.specs.Prelude.{◌≡◌, ℕ, ◌+◌, ◌-◌, Bool, false, List, [], ◌∷◌, ◌++◌, Option, Some, None, Result, Ok, Err, map, codes, if◌then◌else◌}
-use Rattle.std.specs.List.{flat_map}
+use Rattle.std.specs.Prelude.{◌≡◌, ℕ, ◌+◌, ◌-◌, Bool, true, false, List, [], ◌∷◌, ◌++◌, Option, Some, None, Result, Ok, Err, length, map, codes, if◌then◌else◌}
 use Rattle.kasa_graph.specs.declared.mixture.Agent.{Agent as Cell}
 use Rattle.kasa_graph.specs.Signature.{TypeEntry}
 use Rattle.kasa_syntax.specs.declared.tokens.Span.{Span}
@@ -10,7 +9,7 @@ use Rattle.kasa_syntax.specs.declared.decls.RuleText.{RuleText}
 use Rattle.kasa_syntax.specs.declared.decls.Form.{Form}
 use Rattle.kasa_syntax.specs.declared.decls.Form.TheVariants.{Edit, Arrow}
 use Rattle.kasa_syntax.specs.declared.decls.Decl.{Decl}
-use Rattle.kasa_syntax.specs.declared.decls.Decl.TheVariants.{Agent, Init, Rule}
+use Rattle.kasa_syntax.specs.declared.decls.Decl.TheVariants.{Agent, Init, Add, Rule}
 use Rattle.kasa_lexer.specs.Tokens.{IsOutcome as IsLexed}
 use Rattle.kasa_parser.specs.Parses.{IsOutcome as IsParsed}
 use Rattle.kasa_sig.specs.Mentions.{word}
@@ -26,18 +25,13 @@ use Rattle.kasa_compile.specs.Said.{agent_on, pairs_of, turned}
 use Rattle.kasa_compile.specs.Sides.{sides_of}
 use Rattle.kasa_compile.specs.Complex.{complex_of}
 use Rattle.kasa_compile.specs.Rule.{rule_of}
-use Rattle.kasa_compile.specs.Causes.{or_else, first_of, init_causes, rule_causes, reverse_causes}
+use Rattle.kasa_compile.specs.Causes.{first_of, init_causes, rule_causes, reverse_causes}
 
 -- ---- declarations
 
--- the agents of an init
+-- the agents of a declared complex
 abbrev pub complex_said : List ℕ → List TypeEntry → InitDecl → List AgentSaid
 complex_said text sig d = map (agent_on Left text sig) d.agents
-
-abbrev pub inits_in : List ℕ → List TypeEntry → Decl → List (List (Option Cell))
-inits_in text sig (Agent d) = []
-inits_in text sig (Init d) = complex_of sig (complex_said text sig d) ∷ []
-inits_in text sig (Rule d) = []
 
 -- a rule's name without its quotes, empty where there is none
 abbrev pub name_of : List ℕ → Option Span → List ℕ
@@ -60,47 +54,66 @@ forward_rule text sig d = rule_of sig (name_of text d.name) (sides_of (pairs_of 
 abbrev pub reverse_rule : List ℕ → List TypeEntry → RuleText → RuleParts
 reverse_rule text sig d = rule_of sig (reverse_name (name_of text d.name)) (sides_of (turned (pairs_of text sig d.form)))
 
-abbrev pub rules_said : List ℕ → List TypeEntry → RuleText → List RuleParts
-rules_said text sig d = forward_rule text sig d ∷ (if is_both d.form then reverse_rule text sig d ∷ [] else [])
+-- ---- the model of declarations
 
-abbrev pub rules_in : List ℕ → List TypeEntry → Decl → List RuleParts
-rules_in text sig (Agent d) = []
-rules_in text sig (Init d) = []
-rules_in text sig (Rule d) = rules_said text sig d
+-- a model with one declared complex more; the number of an addition counts inits and additions together, from 1
+abbrev pub with_complex : Model → Bool → List (Option Cell) → Model
+with_complex m is_addition complex = record {
+  sig = m.sig;
+  inits = m.inits ++ complex ∷ [];
+  added = if is_addition then m.added ++ (length m.inits + 1) ∷ [] else m.added;
+  rules = m.rules;
+}
 
--- ---- the first fault
+-- with one rule more
+abbrev pub with_rule : Model → RuleParts → Model
+with_rule m rule = record { sig = m.sig; inits = m.inits; added = m.added; rules = m.rules ++ rule ∷ [] }
 
--- the forward rule is tried with the whole list, and then the reverse rule
-abbrev pub rule_fault : List ℕ → List TypeEntry → ℕ → RuleText → Option CompileFault
-rule_fault text sig count d = or_else (first_of text (rule_causes text sig count d)) (if is_both d.form then first_of text (reverse_causes text sig (count + 1) d) else None)
-
--- of a declaration before which so many inits and so many rules stand
-abbrev pub decl_fault : List ℕ → List TypeEntry → ℕ → ℕ → Decl → Option CompileFault
-decl_fault text sig inits rules (Agent d) = None
-decl_fault text sig inits rules (Init d) = first_of text (init_causes text sig inits d)
-decl_fault text sig inits rules (Rule d) = rule_fault text sig rules d
-
-abbrev pub inits_of : Decl → ℕ
-inits_of (Init d) = 1
-inits_of _ = 0
-
-abbrev pub rules_of : Decl → ℕ
-rules_of (Rule d) = if is_both d.form then 2 else 1
-rules_of _ = 0
-
-unfoldable pub first_fault : List ℕ → List TypeEntry → ℕ → ℕ → List Decl → Option CompileFault
-first_fault text sig inits rules [] = None
-first_fault text sig inits rules (d ∷ decls) = or_else (decl_fault text sig inits rules d) (first_fault text sig (inits + inits_of d) (rules + rules_of d) decls)
-
--- ---- the model
-
--- the model that declarations say over a signature, or their first fault
+-- the first of some causes, or else a model
 abbrev pub unless_fault : Option CompileFault → Model → Result Model CompileFault
-unless_fault None model = Ok model
-unless_fault (Some fault) model = Err fault
+unless_fault None m = Ok m
+unless_fault (Some fault) m = Err fault
+
+abbrev pub if_no_fault : Result Model CompileFault → (Model → Result Model CompileFault) → Result Model CompileFault
+if_no_fault (Ok m) later = later m
+if_no_fault (Err fault) later = Err fault
+
+-- what a declared complex makes of the model before it, and what the rules of a declaration do: the rule from left to
+-- right, and then, for `<->`, the rule from right to left
+abbrev pub try_complex : List ℕ → Bool → InitDecl → Model → Result Model CompileFault
+try_complex text is_addition d m =
+    unless_fault (first_of text (init_causes text m.sig (length m.inits) d))
+    (with_complex m is_addition (complex_of m.sig (complex_said text m.sig d)))
+
+abbrev pub try_forward : List ℕ → RuleText → Model → Result Model CompileFault
+try_forward text d m =
+    unless_fault (first_of text (rule_causes text m.sig (length m.rules) d)) (with_rule m (forward_rule text m.sig d))
+
+abbrev pub try_reverse : List ℕ → RuleText → Model → Result Model CompileFault
+try_reverse text d m =
+    unless_fault (first_of text (reverse_causes text m.sig (length m.rules) d)) (with_rule m (reverse_rule text m.sig d))
+
+abbrev pub try_rules : List ℕ → RuleText → Model → Result Model CompileFault
+try_rules text d m = if_no_fault (try_forward text d m) (if is_both d.form then try_reverse text d else Ok)
+
+-- what a declaration does
+abbrev pub try_decl : List ℕ → Decl → Model → Result Model CompileFault
+try_decl text (Agent d) m = Ok m
+try_decl text (Init d) m = try_complex text false d m
+try_decl text (Add d) m = try_complex text true d m
+try_decl text (Rule d) m = try_rules text d m
+
+-- what declarations do, in text order
+unfoldable pub try_decls : List ℕ → List Decl → Model → Result Model CompileFault
+try_decls text [] m = Ok m
+try_decls text (d ∷ decls) m = if_no_fault (try_decl text d m) (try_decls text decls)
+
+-- the model of a signature alone, and what declarations make of it: the model that they say, or their first fault
+abbrev pub only_signature : List TypeEntry → Model
+only_signature sig = record { sig = sig; inits = []; added = []; rules = [] }
 
 abbrev pub model_of : List ℕ → List TypeEntry → List Decl → Result Model CompileFault
-model_of text sig decls = unless_fault (first_fault text sig 0 0 decls) (record { sig = sig; inits = flat_map (inits_in text sig) decls; rules = flat_map (rules_in text sig) decls })
+model_of text sig decls = try_decls text decls (only_signature sig)
 
 -- the tokens of a text and its declarations
 pub record IsTree (text : List ℕ) (decls : List Decl) : Type 0 where
@@ -121,7 +134,7 @@ pub record IsModelOf (text : List ℕ) (model : Model) : Type 0 where
   pub said : model_of text sig decls ≡ Ok model
 
 -- a text has no model for this fault, the first one: it is lexed, then parsed, then its signature is built, and then its
--- inits and rules are compiled in text order
+-- inits, additions and rules are compiled in text order
 abbrev pub IsFaultOf : List ℕ → ModelFault → Type 0
 IsFaultOf text (fault.Lex f) = IsLexed text (Err f)
 IsFaultOf text (fault.Parse f) = (tokens : List Token) × IsLexed text (Ok tokens) × IsParsed text tokens (Err f)

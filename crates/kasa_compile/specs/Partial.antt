@@ -1,4 +1,4 @@
--- Sites of inits that say too little, by the offsets of their names.
+-- Sites of declared complexes that say too little, by the offsets of their names.
 use Rattle.std.specs.Prelude.{ℕ, Bool, true, false, ◌||◌, List, [], ◌∷◌, Option, Some, None, if◌then◌else◌}
 use Rattle.std.specs.List.{flat_map}
 use Rattle.kasa_syntax.specs.declared.agents.StateWord.{StateWord}

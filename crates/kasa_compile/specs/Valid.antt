@@ -1,4 +1,4 @@
--- What the passes over an init or a rule show before it is compiled: numbers exist, and labels join.
+-- What the passes over a declared complex or a rule show before it is compiled: numbers exist, and labels join.
 use Rattle.std.specs.Prelude.{◌≡◌, ◌↔◌, ℕ, ◌<◌, List, length, map, Some, slice_get}
 use Rattle.kasa_graph.specs.Signature.{TypeEntry, HasSite, HasState}
 use Rattle.kasa_graph.specs.Lists.{AllDifferent}

@@ -1,4 +1,4 @@
-// Inits and rules, tried for each cause in order.
+// Declared complexes and rules, tried for each cause in order.
 ghost use Rattle.std.specs.Prelude.{◌≡◌, ◌≢◌, ◌≤◌, ◌++◌, List, Some, length, IfOk, IfErr};
 ghost use Rattle.kasa_graph.specs.Signature.{TypeEntry};
 ghost use Rattle.kasa_syntax.specs.Place.{place_at};
@@ -40,7 +40,7 @@ pub fn place(text: &[u8], at: u32) -> Place
     place_of(text, at.min(text.len() as u32))
 }
 
-// The first fault at the names of an init.
+// The first fault at the names of a declared complex.
 #[tactic(auto, unfolding(crate::specs::Causes::first_of))]
 fn name_fault_of_init(text: &[u8], sig: &Signature, agents: &[AgentText]) -> Option<CompileFault>
     requires few { length text.now ≤ 4194304 }
@@ -82,7 +82,7 @@ fn name_fault_of_rule(text: &[u8], sig: &Signature, form: &Form) -> Option<Compi
     None
 }
 
-// The first other fault of an init, but that there are too many.
+// The first other fault of a declared complex, but that there are too many.
 fn complex_fault(
     alloc: Global,
     text: &[u8],
@@ -103,7 +103,7 @@ fn complex_fault(
     Ok(None)
 }
 
-/// The first fault of an init before which so many stand.
+/// The first fault of an init or addition before which so many of both stand.
 pub fn init_fault(
     alloc: Global,
     text: &[u8],

@@ -1,14 +1,13 @@
-// The inits and rules of a text, in text order.
-ghost use Rattle.std.specs.Prelude.{List, ℕ, ◌≡◌, ◌≢◌, ◌≤◌, ◌++◌, ◌∷◌, [], None, Some, Ok, Err, length, ◌+◌, IfOk, OnOk, IfErr};
+// The inits, additions and rules of a text, in text order.
+ghost use Rattle.std.specs.Prelude.{List, ℕ, ◌≡◌, ◌≢◌, ◌<◌, ◌≤◌, None, Some, Ok, Err, length, ◌+◌, IfOk, IfErr};
 ghost use Rattle.kasa_compile.specs.declared.fault.CompileFault.TheVariants.{NoMemory as no_memory};
 ghost use Rattle.kasa_compile.specs.Causes.{first_of, init_causes, forward_causes, rule_causes, reverse_causes};
-ghost use Rattle.kasa_compile.specs.Model.{complex_said, name_of, reverse_name, is_both, forward_rule, reverse_rule, rule_fault, first_fault, model_of};
+ghost use Rattle.kasa_compile.specs.Model.{complex_said, name_of, reverse_name, is_both, forward_rule, reverse_rule, with_complex, with_rule, try_complex, try_rules, try_decl, try_decls, only_signature, model_of};
 ghost use Rattle.kasa_compile.specs.Complex.{complex_of};
 ghost use Rattle.kasa_compile.specs.Said.{pairs_of, turned};
 ghost use Rattle.kasa_compile.specs.Sides.{sides_of};
 ghost use Rattle.kasa_compile.specs.Valid.{AreSides};
-ghost use Rattle.kasa_compile.specs.Compiling.{AreTried, IsSmallComplex, IsSmallRule, AreCompiled, AreAdded};
-ghost use Rattle.kasa_syntax.specs.declared.decls.Decl.{Decl as SpecDecl};
+ghost use Rattle.kasa_compile.specs.Compiling.{AreTried, IsSmallComplex, IsSmallRule, IsWhole, model_in};
 
 use crate::CompileFault;
 use crate::causes::{Tried, form_fault, init_fault, limit_fault, place, try_sides};
@@ -18,12 +17,12 @@ use crate::resolved::complex_agents;
 use crate::rule::rule;
 use crate::words::between;
 use kasa_graph::{Mixture, Signature};
-use kasa_num::NoMemory;
-use kasa_rules::{Inits, Model, Rule, Rules};
+use kasa_num::{InitNo, NoMemory};
+use kasa_rules::{Added, Inits, Model, Rule, Rules};
 use kasa_syntax::{Decl, Form, InitDecl, RuleText, Span};
 use std::alloc::Global;
 
-// The complex of an init before which so many stand, or its first fault.
+// A declared complex before which so many stand, or its first fault.
 fn compile_init(
     alloc: Global,
     text: &[u8],
@@ -173,93 +172,138 @@ fn reverse_rule(
     Ok(rule)
 }
 
-fn push_init(inits: &mut Vec<Mixture>, init: Mixture) -> Result<(), NoMemory>
-    ensures { OnOk result (inits.new.items ≡ inits.old.items ++ init ∷ []) }
-{
-    inits.push(init)?;
-    Ok(())
-}
-
-fn push_rule(rules: &mut Vec<Rule>, rule: Rule) -> Result<(), NoMemory>
-    ensures { OnOk result (rules.new.items ≡ rules.old.items ++ rule ∷ []) }
-{
-    rules.push(rule)?;
-    Ok(())
-}
-
-// Adds the rules of a declaration.
-fn add_rules(
-    alloc: Global,
-    text: &[u8],
-    sig: &Signature,
-    rules: &mut Vec<Rule>,
-    decl: &RuleText,
-) -> Result<(), CompileFault>
-    requires few { length text.now ≤ 4194304 }
-    ensures added { OnOk result (AreAdded text.now sig.now decl.now rules.old.items rules.new.items) }
-    ensures fault { IfErr result (λ fault. fault ≢ no_memory → rule_fault text.now sig.now (length rules.old.items) decl.now ≡ Some fault) }
-{
-    let count = rules.len();
-    let forward = forward_rule(alloc, text, sig, count, decl)?;
-    push_rule(rules, forward)?;
-    if is_both(&decl.form) {
-        let reverse = reverse_rule(alloc, text, sig, count, decl)?;
-        push_rule(rules, reverse)?;
-    }
-    Ok(())
-}
-
-// Adds what a declaration says.
-fn add(
-    alloc: Global,
-    text: &[u8],
-    sig: &Signature,
-    inits: &mut Vec<Mixture>,
-    rules: &mut Vec<Rule>,
-    decl: &Decl,
-) -> Result<(), CompileFault>
-    requires few { length text.now ≤ 4194304 }
-    ensures added { OnOk result ((decls rest : List SpecDecl) → AreCompiled text.now sig.now decls (decl.now ∷ rest) inits.old.items rules.old.items → AreCompiled text.now sig.now decls rest inits.new.items rules.new.items) }
-    ensures fault { IfErr result (λ fault. fault ≢ no_memory → (decls rest : List SpecDecl) → AreCompiled text.now sig.now decls (decl.now ∷ rest) inits.old.items rules.old.items → first_fault text.now sig.now 0 0 decls ≡ Some fault) }
-{
-    match decl {
-        Decl::Agent(_) => Ok(()),
-        Decl::Init(init) => {
-            let complex = compile_init(alloc, text, sig, inits.len(), init)?;
-            push_init(inits, complex)?;
-            Ok(())
-        }
-        Decl::Rule(rule) => add_rules(alloc, text, sig, rules, rule),
-    }
-}
-
-// The complexes of inits, and rules.
+// What has been compiled: the parts of a model.
 #[derive(Drop)]
 struct Compiled {
+    sig: Signature,
     inits: Vec<Mixture>,
+    added: Vec<InitNo>,
     rules: Vec<Rule>,
 }
 
-// What declarations say, or the first fault.
-fn compile_decls(
-    alloc: Global,
-    text: &[u8],
-    sig: &Signature,
-    decls: &[Decl],
-) -> Result<Compiled, CompileFault>
-    requires few { length text.now ≤ 4194304 }
-    ensures compiled { IfOk result (λ compiled. AreCompiled text.now sig.now decls.now [] compiled.inits.items compiled.rules.items) }
-    ensures fault { IfErr result (λ fault. fault ≢ no_memory → first_fault text.now sig.now 0 0 decls.now ≡ Some fault) }
+fn nothing_yet(alloc: Global, sig: Signature) -> Compiled
+    ensures { model_in result ≡ only_signature sig }
 {
-    let mut inits = Vec::new(alloc);
-    let mut rules = Vec::new(alloc);
-    for decl in decls {
-        add(alloc, text, sig, &mut inits, &mut rules, decl)?;
+    Compiled {
+        sig,
+        inits: Vec::new(alloc),
+        added: Vec::new(alloc),
+        rules: Vec::new(alloc),
     }
-    Ok(Compiled { inits, rules })
 }
 
-/// The model that declarations say over a signature, or the first fault of its inits and rules in text order.
+// Puts a declared complex behind the others, and its number behind those of the additions if it is one.
+fn push_complex(
+    compiled: Compiled,
+    is_addition: bool,
+    complex: Mixture,
+) -> Result<Compiled, NoMemory>
+    requires few { length compiled.inits.items < 1000 }
+    ensures { IfOk result (λ next. model_in next ≡ with_complex (model_in compiled) is_addition complex) }
+{
+    let mut next = compiled;
+    next.inits.push(complex)?;
+    if is_addition {
+        next.added.push(InitNo(next.inits.len() as u16))?;
+    }
+    Ok(next)
+}
+
+// Puts a rule behind the others.
+fn push_rule(compiled: Compiled, rule: Rule) -> Result<Compiled, NoMemory>
+    ensures { IfOk result (λ next. model_in next ≡ with_rule (model_in compiled) rule) }
+{
+    let mut next = compiled;
+    next.rules.push(rule)?;
+    Ok(next)
+}
+
+// With a declared complex more.
+fn add_complex(
+    alloc: Global,
+    text: &[u8],
+    is_addition: bool,
+    init: &InitDecl,
+    compiled: Compiled,
+) -> Result<Compiled, CompileFault>
+    requires few { length text.now ≤ 4194304 }
+    requires before { IsWhole (model_in compiled) }
+    ensures added { IfOk result (λ next. try_complex text.now is_addition init.now (model_in compiled) ≡ Ok (model_in next)) }
+    ensures after { IfOk result (λ next. IsWhole (model_in next)) }
+    ensures fault { IfErr result (λ fault. fault ≢ no_memory → try_complex text.now is_addition init.now (model_in compiled) ≡ Err fault) }
+{
+    let complex = compile_init(alloc, text, &compiled.sig, compiled.inits.len(), init)?;
+    let next = push_complex(compiled, is_addition, complex)?;
+    Ok(next)
+}
+
+// With the rules of a declaration.
+fn add_rules(
+    alloc: Global,
+    text: &[u8],
+    decl: &RuleText,
+    compiled: Compiled,
+) -> Result<Compiled, CompileFault>
+    requires few { length text.now ≤ 4194304 }
+    requires before { IsWhole (model_in compiled) }
+    ensures added { IfOk result (λ next. try_rules text.now decl.now (model_in compiled) ≡ Ok (model_in next)) }
+    ensures after { IfOk result (λ next. IsWhole (model_in next)) }
+    ensures fault { IfErr result (λ fault. fault ≢ no_memory → try_rules text.now decl.now (model_in compiled) ≡ Err fault) }
+{
+    let count = compiled.rules.len();
+    let forward = forward_rule(alloc, text, &compiled.sig, count, decl)?;
+    let next = push_rule(compiled, forward)?;
+    if !is_both(&decl.form) {
+        return Ok(next);
+    }
+    let reverse = reverse_rule(alloc, text, &next.sig, count, decl)?;
+    let last = push_rule(next, reverse)?;
+    Ok(last)
+}
+
+// With what a declaration says.
+fn add(
+    alloc: Global,
+    text: &[u8],
+    decl: &Decl,
+    compiled: Compiled,
+) -> Result<Compiled, CompileFault>
+    requires few { length text.now ≤ 4194304 }
+    requires before { IsWhole (model_in compiled) }
+    ensures added { IfOk result (λ next. try_decl text.now decl.now (model_in compiled) ≡ Ok (model_in next)) }
+    ensures after { IfOk result (λ next. IsWhole (model_in next)) }
+    ensures fault { IfErr result (λ fault. fault ≢ no_memory → try_decl text.now decl.now (model_in compiled) ≡ Err fault) }
+{
+    match decl {
+        Decl::Agent(_) => Ok(compiled),
+        Decl::Init(init) => add_complex(alloc, text, false, init, compiled),
+        Decl::Add(init) => add_complex(alloc, text, true, init, compiled),
+        Decl::Rule(rule) => add_rules(alloc, text, rule, compiled),
+    }
+}
+
+// With what declarations say, in text order.
+fn add_all(
+    alloc: Global,
+    text: &[u8],
+    decls: &[Decl],
+    compiled: Compiled,
+) -> Result<Compiled, CompileFault>
+    requires few { length text.now ≤ 4194304 }
+    requires before { IsWhole (model_in compiled) }
+    ensures added { IfOk result (λ next. try_decls text.now decls.now (model_in compiled) ≡ Ok (model_in next)) }
+    ensures after { IfOk result (λ next. IsWhole (model_in next)) }
+    ensures fault { IfErr result (λ fault. fault ≢ no_memory → try_decls text.now decls.now (model_in compiled) ≡ Err fault) }
+{
+    let mut next = compiled;
+    for decl in decls {
+        next = add(alloc, text, decl, next)?;
+    }
+    Ok(next)
+}
+
+/// The model that declarations say over a signature, or the first fault of its inits, additions and rules
+/// in text order.
 pub fn compile(
     alloc: Global,
     text: &[u8],
@@ -270,8 +314,15 @@ pub fn compile(
     ensures model { IfOk result (λ model. model_of text.now sig decls.now ≡ Ok model) }
     ensures fault { IfErr result (λ fault. fault ≢ no_memory → model_of text.now sig decls.now ≡ Err fault) }
 {
-    let Compiled { inits, rules } = compile_decls(alloc, text, &sig, decls)?;
-    let inits = Inits::new(inits);
-    let rules = Rules::new(rules);
-    Ok(Model { sig, inits, rules })
+    let none = nothing_yet(alloc, sig);
+    let done = add_all(alloc, text, decls, none)?;
+    let inits = Inits::new(done.inits);
+    let added = Added::new(done.added);
+    let rules = Rules::new(done.rules);
+    Ok(Model {
+        sig: done.sig,
+        inits,
+        added,
+        rules,
+    })
 }

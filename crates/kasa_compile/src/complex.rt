@@ -1,4 +1,4 @@
-// The complex of an init.
+// A declared complex.
 ghost use Rattle.std.specs.Prelude.{◌≡◌, ◌≢◌, ◌≤◌, ◌<◌, ◌+◌, length, take, None, Some, IfOk, OnOk, slice_get};
 ghost use Rattle.kasa_graph.specs.Mixture.{partner_in, HasAgentSite, IsMixtureOver};
 ghost use Rattle.kasa_compile.specs.declared.said.AgentSaid.{AgentSaid as Said};

@@ -8,7 +8,7 @@ use kasa_parser::ParseFault;
 use kasa_sig::SigFault;
 use thiserror::Error;
 
-/// Why an init or a rule is refused: the causes in the order in which they are tried within one declaration, each with
+/// Why an init, an addition or a rule is refused: the causes in the order in which they are tried within one declaration, each with
 /// the place where it comes first.
 #[derive(Debug, Drop, PartialEq, Eq, Error)]
 pub enum CompileFault {
@@ -27,7 +27,7 @@ pub enum CompileFault {
     /// A site that stands in its agent already; the place is that of its second name.
     #[error("the site stands twice")]
     SiteTwice(Place),
-    /// A label that doesn't stand exactly twice on a side of a rule, or in an init; the place is that of the label.
+    /// A label that doesn't stand exactly twice on a side of a rule, or in a complex; the place is that of the label.
     #[error("the label does not stand exactly twice")]
     LabelNotTwice(Place),
     /// Two agents of different types that belong together; the place is that of the right name.
@@ -39,17 +39,17 @@ pub enum CompileFault {
     /// What can't stand on the right; the place is that of the site's name.
     #[error("this cannot stand on the right")]
     BadRight(Place),
-    /// A site of an init whose state or link is left open; the place is that of the site's name.
+    /// A site of an init or addition whose state or link is left open; the place is that of the site's name.
     #[error("an init cannot leave this open")]
     PartialInit(Place),
-    /// The 13th agent of a side of a rule, or the 201st of an init; the place is that of its name.
+    /// The 13th agent of a side of a rule, or the 201st of an init or addition; the place is that of its name.
     #[error("there are too many agents")]
     TooManyNodes(Place),
     /// The 2,001st rule; the place is that of its declaration.
     #[error("there are more than 2,000 rules")]
     TooManyRules(Place),
-    /// The 1,001st init; the place is that of its declaration.
-    #[error("there are more than 1,000 inits")]
+    /// The 1,001st init or addition, both counted together; the place is that of an init's declaration, or of the `$ADD`.
+    #[error("there are more than 1,000 inits and additions")]
     TooManyInits(Place),
 }
 
@@ -61,8 +61,8 @@ impl From<NoMemory> for CompileFault {
     }
 }
 
-/// Why a text has no model: the first fault of its bytes, else of its tokens, else of its signature, else of its inits
-/// and rules in text order.
+/// Why a text has no model: the first fault of its bytes, else of its tokens, else of its signature, else of its
+/// inits, additions and rules in text order.
 #[derive(Debug, Drop, PartialEq, Eq, Error)]
 pub enum ModelFault {
     /// There is no memory for the model, or for what it is read from.

@@ -20,7 +20,7 @@ pub fn lesser(one: Option<u32>, other: Option<u32>) -> Option<u32>
     }
 }
 
-/// The offset of the 201st agent of an init.
+/// The offset of the 201st agent of a declared complex.
 pub fn past_limit_of_init(agents: &[AgentText]) -> Option<u32>
     ensures { result ≡ behind 200 agents.now }
 {

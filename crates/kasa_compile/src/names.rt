@@ -259,7 +259,7 @@ fn first_in_agent(pass: NamePass, text: &[u8], sig: &Signature, agent: &AgentTex
     }
 }
 
-/// The offset of the first name among the agents of an init for which the pass is made.
+/// The offset of the first name among the agents of a declared complex for which the pass is made.
 pub fn first_in_agents(
     pass: NamePass,
     text: &[u8],

@@ -1,11 +1,11 @@
-// Sites of inits that say too little.
+// Sites of declared complexes that say too little.
 ghost use Rattle.std.specs.Prelude.{◌≡◌, ◌||◌, slice_get};
 ghost use Rattle.std.specs.List.{flat_map};
 ghost use Rattle.kasa_compile.specs.Partial.{partial_site, partial_sites, leaves_state, leaves_link};
 
 use kasa_syntax::{AgentText, LinkText, LinkWord, SiteText, StateText, StateWord};
 
-/// The offset of the first site of an init whose state or link is left open.
+/// The offset of the first site of a declared complex whose state or link is left open.
 pub fn partial_site(agents: &[AgentText]) -> Option<u32>
     ensures { result ≡ slice_get (flat_map partial_sites agents.now) 0 }
 {

@@ -69,7 +69,7 @@ fn model_of_tree(alloc: Global, text: &[u8], decls: &[Decl]) -> Result<Model, Mo
 }
 
 /// The model of a text of the core of Kappa 4, with at most 4 MiB, or its first fault: the text is lexed, then parsed,
-/// then its signature is built, and then its inits and rules are compiled in text order.
+/// then its signature is built, and then its inits, additions and rules are compiled in text order.
 pub fn read_model(alloc: Global, text: &[u8]) -> Result<Model, ModelFault>
     requires few { length text.now ≤ 4194304 }
     ensures model { IfOk result (λ model. IsModelOf text.now model) }

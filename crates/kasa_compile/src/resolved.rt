@@ -186,7 +186,7 @@ pub fn agent_on(
     })
 }
 
-/// The agents of an init.
+/// The agents of a declared complex.
 pub fn complex_agents(
     alloc: Global,
     text: &[u8],
