@@ -51,6 +51,14 @@ stays r stands (c ∷ columns) (l ∷ shown) out leaves (rest, comes, column) fr
 
 -- ---- along a bond
 
+-- a node that a left node's test names is a left node
+pub named_within : (sig : List TypeEntry) (r : RuleParts) → IsRuleOver sig r → (n u m w : ℕ) → link_test r.left n u ≡ test.To m w → m < length r.left
+named_within sig r rule n u m w e =
+    let back = rule.left.linked.both_ways n u m w e in
+    let a = type_of_node_site r.left m w (tested_site r.left m w (test.To n u) back (λ f. absurd cc)) in
+    let there : slice_get (types_of r.left) m ≡ Some a.0 = sym (agent_at-types r.left m) ∙ a.1 in
+    rw (← length-map r.left (λ (x : Node). x.agent)) (slice_get_within (types_of r.left) m a.0 there)
+
 module _ (sig : List TypeEntry) (r : RuleParts) (rule : IsRuleOver sig r) (shape : Shape) (ok : IsShape sig shape) (locals : List Local) (stands : List Stand) (freed : List FreedBy) (g : List Node) (free : AreFreed r (pattern_of sig shape locals) stands freed) (before : IsBefore sig r (pattern_of sig shape locals) stands freed g) (s t : NodeSite) where
   abbrev v : List Node
   v = pattern_of sig shape locals
@@ -69,14 +77,6 @@ module _ (sig : List TypeEntry) (r : RuleParts) (rule : IsRuleOver sig r) (shape
   written_leads written.Free met = absurd met
   written_leads (written.To e y) met = (met.1, met.0)
 
-  -- a node that a left node's test names is a left node
-  named_within : (n u m w : ℕ) → link_test r.left n u ≡ test.To m w → m < length r.left
-  named_within n u m w e =
-      let back = rule.left.linked.both_ways n u m w e in
-      let a = type_of_node_site r.left m w (tested_site r.left m w (test.To n u) back (λ f. absurd cc)) in
-      let there : slice_get (types_of r.left) m ≡ Some a.0 = sym (agent_at-types r.left m) ∙ a.1 in
-      rw (← length-map r.left (λ (x : Node). x.agent)) (slice_get_within (types_of r.left) m a.0 there)
-
   test_leads : (n : ℕ) (asked : LinkTest) → link_test r.left n s.site ≡ asked → LinkImplies g (link_test g n s.site) asked → (q : ℕ) × (place_of r stands t.node ≡ Some q) × (link_test g n s.site ≡ test.To q t.site) → TestLeads stands t asked
   test_leads n test.Any e implied led = tt
   test_leads n test.Free e implied led = absurd (rw led.2 at implied)
@@ -86,7 +86,7 @@ module _ (sig : List TypeEntry) (r : RuleParts) (rule : IsRuleOver sig r) (shape
       let to : test.To led.0 t.site ≡ test.To m u = sym led.2 ∙ To-implied g (link_test g n s.site) m u implied in
       let node : led.0 ≡ m = cc in
       let site : u ≡ t.site = cc in
-      (site, left_at r stands t.node m (led.1 ∙ ap Some node) (named_within n s.site m u e))
+      (site, left_at r stands t.node m (led.1 ∙ ap Some node) (named_within sig r rule n s.site m u e))
 
   leads_from : (stand : Stand) → slice_get stands s.node ≡ Some stand → LinkBefore r g stands (place_of r stands s.node) stand s.site (test.To t.node t.site) → MatchOption (link_written r stand s.site) (StandLeads r stands s t stand) (WrittenLeads stands t)
   leads_from (Left n) at link = by (link_written r (Left n) s.site) link

@@ -118,7 +118,7 @@ module _ (sig : List TypeEntry) (tables : List Table) (ok : AreTables sig tables
         comes_forward sig tables ok r rule family has columned locals row stands freed y (MayHaveShown sig tables r family view) all.0 (inr (writes, all.2)) all.1
 
     weaker : ComesForward sig tables r family (WasStored tables r family) locals → ComesForward sig tables r family (MayHaveShown sig tables r family view) locals
-    weaker c = record { stands = c.stands; fit = c.fit; shown = c.shown; was = inl c.was; out = c.out; comes = c.comes; is = c.is; yields = c.yields }
+    weaker c = record { stands = c.stands; fit = c.fit; shown = c.shown; was = inl c.was; agrees = c.agrees; out = c.out; comes = c.comes; is = c.is; yields = c.yields }
 
     from_either : ComesForward sig tables r family (MayHaveShown sig tables r family view) locals
     from_either = elim (leaves_or r shape.bonds stands) [

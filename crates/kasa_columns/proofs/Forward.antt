@@ -21,7 +21,7 @@ use Rattle.kasa_families.specs.declared.shape.Bond.{Bond}
 use Rattle.kasa_families.specs.Local.{IsLocal, LocalAgrees}
 use Rattle.kasa_families.specs.Shape.{Shape, Nth, at, ends, IsShape, root_of, pattern_of, AreColumns, ColumnsAgree}
 use Rattle.kasa_families.specs.Place.{IsPlace}
-use Rattle.kasa_families.proofs.ColumnLemmas.{All-at, nth_of, first_end, second_end, types_of-pattern, TestsLocal}
+use Rattle.kasa_families.proofs.ColumnLemmas.{All-at, nth_of, to_nth, first_end, second_end, types_of-pattern, TestsLocal}
 use Rattle.kasa_families.proofs.OverLemmas.{IsPatternOver-pattern_of}
 use Rattle.kasa_families.proofs.RowPattern.{TestsLocals-pattern_of, length_of}
 use Rattle.kasa_pre.specs.declared.Stand.{Stand}
@@ -32,14 +32,16 @@ use Rattle.kasa_pre.specs.Place.{ImpliesAt}
 use Rattle.kasa_pre.specs.Before.{WrittenMeets, place_of, outside_types, state_written, link_written, IsFreed, AreFreed, IsBefore}
 use Rattle.kasa_pre.proofs.ActsLemmas.{touched_within}
 use Rattle.kasa_pre.proofs.AskedLemmas.{place_typed, place_of-left}
+use Rattle.kasa_pre.proofs.Implied.{StatesAgree-general}
 use Rattle.kasa_pre.proofs.FoundBefore.{is_freed_or}
 use Rattle.kasa_pre.proofs.SpotPlaces.{IsBondAt, IsPlace-follows}
 use Rattle.kasa_columns.specs.Comes.{state_after, local_after, local_freed}
-use Rattle.kasa_columns.specs.Forward.{LeavesBonds}
-use Rattle.kasa_columns.proofs.SiteLemmas.{state_comes, link_comes, partner_was, shown_link, same_local, free_link}
+use Rattle.kasa_columns.specs.Forward.{LeavesBonds, StandAgrees, AgreesLeft}
+use Rattle.kasa_columns.proofs.SiteLemmas.{state_comes, link_comes, partner_was, shown_link, same_local, free_link, agrees_left}
 use Rattle.kasa_columns.proofs.Places.{WasThere, place_list, length-place_list, place_list-at, place_list-of, one_place, has_place, all_places}
 use Rattle.kasa_columns.proofs.Zips.{all_of, zip_both}
 use Rattle.kasa_columns.proofs.ShapeTests.{columns_apart, agent_of, first_test, free_column, column_typed}
+use Rattle.kasa_columns.proofs.Along.{named_within}
 use Rattle.kasa_columns.proofs.Created.{state_of_made}
 use Rattle.kasa_columns.proofs.ColumnOutcomes.{SiteComes, StandComes, OneSource, IsOutcome, comes_out}
 
@@ -136,14 +138,18 @@ module _ (sig : List TypeEntry) (r : RuleParts) (rule : IsRuleOver sig r) (shape
     written_within n a s u (Made k) there at is e = absurd there
     written_within n a s u Outside there at is e = absurd cc
 
-    left_typed : (n b t : ℕ) → touched r n t ≡ true → agent_at g n ≡ Some b → agent_at r.left n ≡ Some b
-    left_typed n b t touch typed =
-        let within : n < length (types_of r.left) = rw (length-map r.left (λ (x : Node). x.agent), ← rule.is_rule.actions) (touched_within r n t touch) in
+    -- a left node has its type in g
+    typed_left : (n b : ℕ) → n < length r.left → agent_at g n ≡ Some b → agent_at r.left n ≡ Some b
+    typed_left n b inside typed =
+        let within : n < length (types_of r.left) = rw (length-map r.left (λ (x : Node). x.agent)) inside in
         agent_at-types r.left n
         ∙ sym (slice_get-append_left (types_of r.left) (outside_types v stands) n within)
         ∙ ap (λ (ts : List ℕ). slice_get ts n) (sym before.types)
         ∙ sym (agent_at-types g n)
         ∙ typed
+
+    left_typed : (n b t : ℕ) → touched r n t ≡ true → agent_at g n ≡ Some b → agent_at r.left n ≡ Some b
+    left_typed n b t touch typed = typed_left n b (rw (← rule.is_rule.actions) (touched_within r n t touch)) typed
 
     -- ---- one column
 
@@ -154,6 +160,26 @@ module _ (sig : List TypeEntry) (r : RuleParts) (rule : IsRuleOver sig r) (shape
 
     abbrev pub WasShown : NodeSite → Local → Type 0
     WasShown c o = (a : ℕ) (stand : Stand) → slice_get shape.types c.node ≡ Some a → slice_get stands c.node ≡ Some stand → Was a c o stand
+
+    -- so it doesn't contradict the left pattern
+    agrees_there : (c : NodeSite) (o : Local) → Has shape.columns c → WasShown c o → WasShown c o → Nth stands c.node (StandAgrees r c.site o)
+    agrees_there c o has was _ =
+        let a = column_typed sig shape ok locals c has in
+        let stand = some_at stands c.node (rw stands_count (slice_get_within shape.types c.node a.0 a.1)) in
+        to_nth stands c.node _ stand.0 stand.1 (by a.0 stand.0 stand.1 (was a.0 stand.0 a.1 stand.1))
+      where
+        by : (a : ℕ) (stand : Stand) → slice_get stands c.node ≡ Some stand → Was a c o stand → StandAgrees r c.site o stand
+        by a (Left n) at (p, place, is_o, agrees) =
+            let same : n ≡ p = same_Some n p (sym (place_of-left r stands c.node n at) ∙ place) in
+            let there : LocalAgrees g n c.site o = rw same agrees in record {
+              state = StatesAgree-general _ _ _ (before.left_states n c.site) there.state;
+              link = agrees_left g r.left _ _ o.link (λ m t b e typed. typed_left m b (named_within sig r rule n c.site m t e) typed) (before.left_links n c.site) there.link;
+            }
+        by a (Made k) at blank = tt
+        by a Outside at there = tt
+
+    pub all_agree : (shown : List Local) → AllZip WasShown shape.columns shown → AgreesLeft r stands shape.columns shown
+    all_agree shown was = zip_both (Has shape.columns) WasShown WasShown _ agrees_there shape.columns shown (all_of (Has shape.columns) shape.columns (λ n c e. (n, e))) was was
 
     abbrev Tested : NodeSite → Local → Type 0
     Tested c l = TestsLocal v c l × ((a : ℕ) → slice_get shape.types c.node ≡ Some a → IsLocal sig a c.site l) × Has shape.columns c

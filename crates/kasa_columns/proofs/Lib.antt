@@ -17,6 +17,7 @@ pub mod CollectLemmas
 pub mod Pushing
 pub mod StandLemmas
 pub mod ChoiceLemmas
+pub mod PlanLemmas
 pub mod WalkLemmas
 pub mod SeenLemmas
 pub mod ChosenLemmas

@@ -88,6 +88,7 @@ module _ (sig : List TypeEntry) (tables : List Table) (ok : AreTables sig tables
           fit = zip_of (FitsStand r) stands shape.types count (λ n stand a e f. y.before.stand.fit n a stand e (agent_of sig shape is_shape locals n a f));
           shown = shown;
           was = was;
+          agrees = forward.all_agree sig r rule shape is_shape locals valid stands freed y.pattern y.free y.before shown shows;
           out = o.out;
           comes = o.comes;
           is = o.is;

@@ -1,11 +1,11 @@
 -- What a site of an agent shows after a rule fired comes from what it showed before.
-use Rattle.std.proofs.Common.{◌≡◌, ℕ, zero, suc, ◌<◌, List, refl, sym, ap, arith, Option, Some, None}
+use Rattle.std.proofs.Common.{◌≡◌, ℕ, zero, suc, ◌<◌, List, refl, sym, ap, ◌∙◌, arith, Option, Some, None}
 use Rattle.std.specs.Prelude.{MatchOption}
 use Rattle.kasa_graph.specs.declared.pattern.Node.{Node}
 use Rattle.kasa_graph.specs.declared.pattern.StateTest.{StateTest}
 use Rattle.kasa_graph.specs.declared.pattern.LinkTest.{LinkTest}
 use Rattle.kasa_graph.specs.declared.pattern.LinkTest.TheVariants as test
-use Rattle.kasa_graph.specs.Pattern.{agent_at, StateImplies, StatesAgree, LinksAgree}
+use Rattle.kasa_graph.specs.Pattern.{agent_at, StateImplies, LinkImplies, StatesAgree, LinksAgree}
 use Rattle.kasa_graph.specs.Embedding.{MeetsState}
 use Rattle.kasa_families.specs.declared.row.LocalLink.{LocalLink}
 use Rattle.kasa_families.specs.declared.row.LocalLink.TheVariants as local
@@ -51,6 +51,25 @@ state_comes count a None l o has is was agree implied = same_state count a l o i
 pub link_comes : (r : RuleParts) (stands : List Stand) (g : List Node) (place : ℕ → Option ℕ) (a : LinkTest) (w : Option Written) (l o : LocalLink) → LinksAgree g a (local_link_test o) → MatchOption w (ImpliesAt g place a (local_link_test l)) (λ w. WrittenMeets r stands w (local_link_test l)) → l ≡ link_after r w o
 link_comes r stands g place a (Some w) l o agree met = shown_link r stands w l met
 link_comes r stands g place a None l o agree implied = same_link g place a l o implied agree
+
+-- what agrees with a test agrees with the left pattern's, which it implies, where a node that this one names has its type there
+pub agrees_left : (g left : List Node) (a b : LinkTest) (l : LocalLink) → ((m t c : ℕ) → b ≡ test.To m t → agent_at g m ≡ Some c → agent_at left m ≡ Some c) → LinkImplies g a b → LinksAgree g a (local_link_test l) → LinksAgree left b (local_link_test l)
+agrees_left g left a test.Any l typed p q = tt
+agrees_left g left test.Free test.Free local.Free typed p q = tt
+agrees_left g left test.Free test.Free (local.Partner b y) typed p q = absurd q
+agrees_left g left test.Bound test.Bound local.Free typed p q = absurd q
+agrees_left g left test.Bound test.Bound (local.Partner b y) typed p q = tt
+agrees_left g left (test.Partner a x) test.Bound local.Free typed p q = absurd q
+agrees_left g left (test.Partner a x) test.Bound (local.Partner b y) typed p q = tt
+agrees_left g left (test.To m t) test.Bound local.Free typed p q = absurd q
+agrees_left g left (test.To m t) test.Bound (local.Partner b y) typed p q = tt
+agrees_left g left (test.Partner a x) (test.Partner b y) local.Free typed p q = absurd q
+agrees_left g left (test.Partner a x) (test.Partner b y) (local.Partner c z) typed p q = (sym p.0 ∙ q.0, sym p.1 ∙ q.1)
+agrees_left g left (test.To m t) (test.Partner b y) local.Free typed p q = absurd q
+agrees_left g left (test.To m t) (test.Partner b y) (local.Partner c z) typed p q = (let e : Some b ≡ Some c = sym p.0 ∙ q.0 in cc, sym p.1 ∙ q.1)
+agrees_left g left (test.To m t) (test.To k u) local.Free typed p q = absurd q
+agrees_left g left (test.To m t) (test.To k u) (local.Partner c z) typed p q = (typed k u c refl (rw (← p.0) q.0), sym p.1 ∙ q.1)
+agrees_left g left _ _ l typed p q = absurd p
 
 pub same_local : (l k : Local) → l.state ≡ k.state → l.link ≡ k.link → l ≡ k
 same_local l k e f = λ i. record { state = e i; link = f i }

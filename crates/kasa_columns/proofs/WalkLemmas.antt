@@ -1,6 +1,6 @@
 -- The steps of a search for the rows that a rule yields.
 use Rattle.std.proofs.Common.{◌≡◌, ℕ, suc, ◌<◌, ◌≤◌, ◌+◌, ◌⊎◌, ◌↔◌, inl, inr, Bool, List, [], ◌∷◌, refl, sym, ap, ◌∙◌, subst, length, map, arith, below_more, Option, Some, None}
-use Rattle.std.specs.Prelude.{slice_get, IsTrue}
+use Rattle.std.specs.Prelude.{slice_get, option_map, IsTrue}
 use Rattle.std.specs.List.{AllZip}
 use Rattle.std.proofs.lemmas.List.{length-map}
 use Rattle.std.proofs.lemmas.Option.{same_Some, slice_get_within}
@@ -12,6 +12,7 @@ use Rattle.kasa_graph.proofs.ListLemmas.{some_at}
 use Rattle.kasa_graph.proofs.TestLemmas.{length-types}
 use Rattle.kasa_families.specs.declared.family.Family.{Family}
 use Rattle.kasa_families.specs.declared.family.Family.TheVariants.{View, Across, Parallel, Chain}
+use Rattle.kasa_families.specs.declared.row.LocalLink.{LocalLink}
 use Rattle.kasa_families.specs.declared.row.LocalLink.TheVariants.{Free}
 use Rattle.kasa_families.specs.declared.row.Local.{Local}
 use Rattle.kasa_families.specs.declared.row.Row.{Row}
@@ -30,20 +31,24 @@ use Rattle.kasa_pre.specs.declared.Stand.{Stand}
 use Rattle.kasa_pre.specs.declared.Stand.TheVariants.{Left, Made, Outside}
 use Rattle.kasa_pre.specs.declared.FreedBy.{FreedBy}
 use Rattle.kasa_pre.specs.Allowed.{IsAllowed}
-use Rattle.kasa_pre.specs.Before.{FitsStand, outside_types, AreFreed, IsBefore}
+use Rattle.kasa_pre.specs.Before.{FitsStand, outside_types, link_written, AreFreed, IsBefore}
 use Rattle.kasa_pre.specs.Yields.{Yields}
-use Rattle.kasa_columns.specs.Comes.{Outcome, ComesOut}
+use Rattle.kasa_columns.specs.Comes.{Outcome, ComesOut, link_shown}
 use Rattle.kasa_columns.specs.Forward.{HasColumns, LeavesBonds, IsStored, YieldsAt, ComesForward}
 use Rattle.kasa_columns.specs.Choices.{MayHaveShown}
-use Rattle.kasa_columns.specs.Along.{AreJoined, LeadsAlong}
-use Rattle.kasa_columns.specs.Ask.{Ask, IsAsk, IsResultOf, IsSettled, IsStoredRow, GoesOn}
+use Rattle.kasa_columns.specs.declared.plan.Effect.{Effect}
+use Rattle.kasa_columns.specs.Along.{AreJoined, LeadsAlong, LeavesColumns}
+use Rattle.kasa_columns.specs.Plan.{AreEffects, AreAfter, AreFreeing, HasNoFreeing}
+use Rattle.kasa_columns.specs.Ask.{Ask, IsAsk, stored, IsResultOf, IsSettled, IsStoredRow, GoesOn}
 use Rattle.kasa_columns.specs.Chosen.{MayBe, AreAmong, AreColumnChoices}
-use Rattle.kasa_columns.specs.Settled.{FollowsBonds, StandsAfter, IsOutcomeSettled, IsShownSettled, AreStandsSettled}
+use Rattle.kasa_columns.specs.Settled.{FollowsBonds, StandsAfter, IsOutcomeSettled, IsShownSettled, IsAgreeingSettled, IsRowSettled, AreStandsSettled}
 use Rattle.kasa_columns.proofs.Rows.{ReadsColumns, reads_columns, locals_of}
 use Rattle.kasa_columns.proofs.ShapeTests.{columns_have}
-use Rattle.kasa_columns.proofs.Held.{Has-held}
+use Rattle.kasa_columns.proofs.Held.{Has-held, IsRow-stored}
 use Rattle.kasa_columns.proofs.FreedColumns as freed_columns
-use Rattle.kasa_columns.proofs.Along.{leads_along}
+use Rattle.kasa_columns.proofs.Along.{leads_along, stays}
+use Rattle.kasa_columns.proofs.PlanLemmas.{frees_at, leaves_open, only_kept}
+use Rattle.kasa_columns.proofs.Zips.{zip_get}
 use Rattle.kasa_columns.proofs.Choices.{yields-chosen}
 use Rattle.kasa_columns.proofs.ChoiceLemmas.{Views, views_of}
 
@@ -130,6 +135,9 @@ module _ (a : Ask) (ok : IsAsk a) where
       by (c ∷ columns) (choice ∷ choices) [] among = absurd among
       by (c ∷ columns) (choice ∷ choices) (l ∷ shown) among = ap suc (by columns choices shown among.1)
 
+  pub length-stored : (shown : List Local) → IsStoredRow a shown → length shown ≡ length a.columns
+  length-stored shown has = length-row shown (IsRow-stored a.sig a.tables ok.valid a.number a.family ok.numbered (Locals shown) has)
+
   -- ---- one outcome
 
   module _ (stands : List Stand) (out : Outcome) (comes : (shown : List Local) × ComesOut a.rule stands a.columns shown out) where
@@ -183,8 +191,11 @@ module _ (a : Ask) where
     pub IsShownSettled-on : (stands : List Stand) (shown : List Local) → IsShownSettled a stands old shown → IsShownSettled a stands new shown
     IsShownSettled-on stands shown h out comes = IsOutcomeSettled-on stands out (h out comes)
 
+    pub IsAgreeingSettled-on : (stands : List Stand) (shown : List Local) → IsAgreeingSettled a stands old shown → IsAgreeingSettled a stands new shown
+    IsAgreeingSettled-on stands shown h agrees = IsShownSettled-on stands shown (h agrees)
+
     pub AreStandsSettled-on : (stands : List Stand) (may : List Local → Type 0) → AreStandsSettled a may old stands → AreStandsSettled a may new stands
-    AreStandsSettled-on stands may h shown was = IsShownSettled-on stands shown (h shown was)
+    AreStandsSettled-on stands may h shown was agrees = IsShownSettled-on stands shown (h shown was agrees)
 
   -- a loop over elements, of which each stays settled
   module _ {X : Type 0} (P : List Row → X → Type 0) (stays : (old new : List Row) → GoesOn a old new → (x : X) → P old x → P new x) (xs : List X) where
@@ -192,12 +203,39 @@ module _ (a : Ask) where
     settled_next n old new x first on is settled =
         below_more _ n (λ k less other there. stays old new on other (first k less other there)) (λ other there. subst (P new) (same_Some x other (sym is ∙ there)) settled)
 
-  -- a stored row of a family is settled where each outcome of its local states is
-  abbrev pub IsRowSettled : List Stand → List Row → Row → Type 0
-  IsRowSettled stands found row = (shown : List Local) → row ≡ Locals shown → IsShownSettled a stands found shown
+  pub IsRowSettled-on : (stands : List Stand) (old new : List Row) → GoesOn a old new → (row : Row) → IsRowSettled a stands old row → IsRowSettled a stands new row
+  IsRowSettled-on stands old new on row h shown e agrees = IsShownSettled-on old new on stands shown (h shown e agrees)
 
-  pub IsRowSettled-on : (stands : List Stand) (old new : List Row) → GoesOn a old new → (row : Row) → IsRowSettled stands old row → IsRowSettled stands new row
-  IsRowSettled-on stands old new on row h shown e = IsShownSettled-on old new on stands shown (h shown e)
+  -- ---- a stored row, by the plan for the stands
+
+  module _ (ok : IsAsk a) (stands : List Stand) (links : List LocalLink) (freeing : AreFreeing a.rule links) (effects : List Effect) (are : AreEffects a.rule stands a.columns effects) (shown : List Local) (no : HasNoFreeing links effects shown) where
+    none_freed : (out : Outcome) → ComesOut a.rule stands a.columns shown out → YieldsAt a.sig a.tables a.rule (row_pattern a.sig a.family (Locals out.locals)) stands out.freed → out.freed ≡ []
+    none_freed out comes y = by out.freed refl
+      where
+        by : (freed : List FreedBy) → freed ≡ out.freed → freed ≡ []
+        by [] e = refl
+        by (f ∷ freed) e =
+            let has : Has out.freed f = rw (← e) (0, refl) in
+            let h = frees_at a.rule stands a.columns shown out comes f has in
+            let effect = zip_get _ a.columns effects h.index h.column are h.listed in
+            let is = nth_of stands h.column.node _ effect.2 in
+            let same : h.stand ≡ is.0 = same_Some h.stand is.0 (sym h.stood ∙ is.1) in
+            let none : effect.0.link ≡ None = is.2.link ∙ ap (option_map (link_shown a.rule)) (ap (λ (s : Stand). link_written a.rule s h.column.site) (sym same) ∙ h.source.unwritten) in
+            let leaves = leaves_open a.sig a.rule ok.over (row_pattern a.sig a.family (Locals out.locals)) stands out.freed y.pattern y.free y.before f has in
+            let listed = freeing f.from h.source.agent f.«at» (h.source.typed, h.source.exists, h.source.by_touched) leaves in
+            absurd (no h.index effect.0 h.showed effect.1 h.there none (rw h.source.partner listed))
+
+    -- where nothing is written it comes out as the stored row
+    pub idle_settled : (found : List Row) → LeavesColumns a.rule a.columns stands → ((row : Row) → Has (stored a) row → IsSettled a found row) → IsStoredRow a shown → IsShownSettled a stands found shown
+    idle_settled found leaves settled has out comes valid y =
+        subst (λ (ls : List Local). IsSettled a found (Locals ls)) (sym (stays a.rule stands a.columns shown out leaves comes (none_freed out comes y))) (settled (Locals shown) has)
+
+    -- and else as the one that the plan makes of it
+    pub kept_settled : (found : List Row) (kept : List Local) → length kept ≡ length shown → AreAfter effects shown kept → IsOutcomeSettled a stands found (record { locals = kept; freed = [] }) → IsShownSettled a stands found shown
+    kept_settled found kept long afters settled out comes valid y =
+        let none = none_freed out comes y in
+        let same = only_kept a.rule stands a.columns effects shown kept out are long afters comes none in
+        rw same (settled (rw same at valid) (rw (none, same) at y))
 
   -- ---- from what was tried to all that may have been
 
@@ -255,7 +293,7 @@ module _ (a : Ask) where
         settled_row : (locals : List Local) → IsRow a.sig a.family (Locals locals) → ComesForward a.sig a.tables a.rule a.family (MayHaveShown a.sig a.tables a.rule a.family views.0) locals → IsSettled a found (Locals locals)
         settled_row locals valid c =
             let among = complete c.stands c.fit (follow_yielded locals c.stands c.out.freed c.yields) in
-            subst (λ (ls : List Local). IsSettled a found (Locals ls)) c.is (settled c.stands among c.shown (views.2 c.stands among c.shown c.was) c.out (rw ok.listed c.comes) (rw c.is valid) (rw c.is c.yields))
+            subst (λ (ls : List Local). IsSettled a found (Locals ls)) c.is (settled c.stands among c.shown (views.2 c.stands among c.shown c.was) (rw ok.listed c.agrees) c.out (rw ok.listed c.comes) (rw c.is valid) (rw c.is c.yields))
 
         by : (row : Row) → IsRow a.sig a.family row → Yields a.sig a.tables a.rule a.family row → IsSettled a found row
         by (Locals locals) valid y = settled_row locals valid (yields-chosen a.sig a.tables ok.valid a.rule ok.over a.family (a.number, ok.numbered) ok.columned locals valid views.0 views.1 y)

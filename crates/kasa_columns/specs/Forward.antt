@@ -1,5 +1,5 @@
 -- Rows that come forward through a firing: from a stored row of the same family where the rule writes no bond of the root.
-use Rattle.std.specs.Prelude.{◌≡◌, ⊤, List, [], ◌∷◌, map, None}
+use Rattle.std.specs.Prelude.{◌≡◌, ℕ, ⊤, List, [], ◌∷◌, map, None}
 use Rattle.std.specs.List.{AllByRecursion, AllZip}
 use Rattle.kasa_graph.specs.declared.pattern.Node.{Node}
 use Rattle.kasa_graph.specs.Signature.{TypeEntry}
@@ -8,14 +8,16 @@ use Rattle.kasa_families.specs.declared.family.Family.TheVariants.{Parallel}
 use Rattle.kasa_families.specs.declared.row.LocalLink.TheVariants.{Free}
 use Rattle.kasa_families.specs.declared.row.Local.{Local}
 use Rattle.kasa_families.specs.declared.row.Row.TheVariants.{Locals}
+use Rattle.kasa_families.specs.declared.shape.NodeSite.{NodeSite}
 use Rattle.kasa_families.specs.declared.shape.Bond.{Bond}
+use Rattle.kasa_families.specs.Local.{LocalAgrees}
 use Rattle.kasa_families.specs.Shape.{Nth, ends}
 use Rattle.kasa_families.specs.Family.{shape_of}
 use Rattle.kasa_families.specs.Pattern.{row_pattern}
 use Rattle.kasa_families.specs.Table.{Table, Holds}
 use Rattle.kasa_rules.specs.Rule.{RuleParts}
 use Rattle.kasa_pre.specs.declared.Stand.{Stand}
-use Rattle.kasa_pre.specs.declared.Stand.TheVariants.{Made}
+use Rattle.kasa_pre.specs.declared.Stand.TheVariants.{Left, Made}
 use Rattle.kasa_pre.specs.declared.FreedBy.{FreedBy}
 use Rattle.kasa_pre.specs.Allowed.{IsAllowed}
 use Rattle.kasa_pre.specs.Before.{FitsStand, link_written, AreFreed, IsBefore}
@@ -37,6 +39,15 @@ LeavesBonds r bonds stands = AllByRecursion (λ e. Nth stands e.node (λ stand. 
 abbrev pub IsStored : List Table → Family → List Stand → List Local → Type 0
 IsStored tables family (Made k ∷ []) shown = shown ≡ map (λ _. record { state = None; link = Free }) (shape_of family).columns
 IsStored tables family stands shown = Holds tables family (Locals shown)
+
+-- the local state at a site doesn't contradict what the left pattern asks there of a node with the stand
+abbrev pub StandAgrees : RuleParts → ℕ → Local → Stand → Type 0
+StandAgrees r s l (Left n) = LocalAgrees r.left n s l
+StandAgrees r s l stand = ⊤
+
+-- so it is at each column
+abbrev pub AgreesLeft : RuleParts → List Stand → List NodeSite → List Local → Type 0
+AgreesLeft r stands columns shown = AllZip (λ c l. Nth stands c.node (StandAgrees r c.site l)) columns shown
 
 -- ---- rows
 
@@ -60,6 +71,7 @@ pub record ComesForward (sig : List TypeEntry) (tables : List Table) (r : RulePa
   pub fit : AllZip (FitsStand r) stands (shape_of family).types
   pub shown : List Local
   pub was : may stands shown
+  pub agrees : AgreesLeft r stands (shape_of family).columns shown
   pub out : Outcome
   pub comes : ComesOut r stands (shape_of family).columns shown out
   pub is : out.locals ≡ locals

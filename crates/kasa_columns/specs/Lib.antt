@@ -9,3 +9,4 @@ pub mod Settled
 pub mod Stands
 pub mod Chosen
 pub mod Seen
+pub mod Plan

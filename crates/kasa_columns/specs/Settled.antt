@@ -1,5 +1,5 @@
 -- How far a search went.
-use Rattle.std.specs.Prelude.{List, ◌<◌, length}
+use Rattle.std.specs.Prelude.{◌≡◌, List, ◌<◌, length}
 use Rattle.std.specs.List.{AllZip}
 use Rattle.kasa_graph.specs.Lists.{Has}
 use Rattle.kasa_graph.specs.declared.pattern.Node.{Node}
@@ -16,7 +16,7 @@ use Rattle.kasa_pre.specs.declared.FreedBy.{FreedBy}
 use Rattle.kasa_pre.specs.Before.{FitsStand, IsBefore}
 use Rattle.kasa_pre.specs.Allowed.{IsAllowed}
 use Rattle.kasa_columns.specs.Comes.{Outcome, ComesOut}
-use Rattle.kasa_columns.specs.Forward.{YieldsAt}
+use Rattle.kasa_columns.specs.Forward.{YieldsAt, AgreesLeft}
 use Rattle.kasa_columns.specs.Along.{LeadsAlong}
 use Rattle.kasa_columns.specs.Ask.{Ask, IsSettled}
 
@@ -49,6 +49,14 @@ IsOutcomeSettled a stands found out =
 abbrev pub IsShownSettled : Ask → List Stand → List Row → List Local → Type 0
 IsShownSettled a stands found shown = (out : Outcome) → ComesOut a.rule stands a.columns shown out → IsOutcomeSettled a stands found out
 
--- and of nodes that showed what they may have shown
+-- so it is where the left pattern doesn't contradict them
+abbrev pub IsAgreeingSettled : Ask → List Stand → List Row → List Local → Type 0
+IsAgreeingSettled a stands found shown = AgreesLeft a.rule stands a.columns shown → IsShownSettled a stands found shown
+
+-- and where a stored row gives them
+abbrev pub IsRowSettled : Ask → List Stand → List Row → Row → Type 0
+IsRowSettled a stands found row = (shown : List Local) → row ≡ Locals shown → IsAgreeingSettled a stands found shown
+
+-- and where the nodes showed what they may have shown
 abbrev pub AreStandsSettled : Ask → (List Local → Type 0) → List Row → List Stand → Type 0
-AreStandsSettled a may found stands = (shown : List Local) → may shown → IsShownSettled a stands found shown
+AreStandsSettled a may found stands = (shown : List Local) → may shown → IsAgreeingSettled a stands found shown

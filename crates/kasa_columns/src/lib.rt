@@ -5,6 +5,7 @@ mod chosen;
 mod collect;
 mod fired;
 pub mod laws;
+mod plan;
 mod seen;
 mod stands;
 mod walk;

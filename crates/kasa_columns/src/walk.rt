@@ -7,22 +7,25 @@ ghost use Rattle.kasa_graph.specs.Lists.{Has};
 ghost use Rattle.kasa_families.specs.declared.row.Local.{Local};
 ghost use Rattle.kasa_families.specs.declared.row.LocalLink.TheVariants.{Free};
 ghost use Rattle.kasa_families.specs.declared.row.Row.{Row};
-ghost use Rattle.kasa_families.specs.declared.row.Row.TheVariants.{Locals};
+ghost use Rattle.kasa_families.specs.declared.row.Row.TheVariants.{Locals as row_of};
 ghost use Rattle.kasa_families.specs.Family.{shape_of};
 ghost use Rattle.kasa_families.specs.Row.{IsRow};
 ghost use Rattle.kasa_families.specs.Pattern.{row_pattern};
 ghost use Rattle.kasa_pre.specs.declared.Stand.{Stand};
 ghost use Rattle.kasa_pre.specs.declared.Stand.TheVariants.{Made};
 ghost use Rattle.kasa_pre.specs.Before.{FitsStand, AreFreed};
+ghost use Rattle.kasa_columns.specs.declared.plan.Asked.{Asked as AskedParts};
 ghost use Rattle.kasa_columns.specs.Comes.{ComesOut};
 ghost use Rattle.kasa_columns.specs.Forward.{LeavesBonds};
-ghost use Rattle.kasa_columns.specs.Ask.{IsResultOf, IsSettled, IsStoredRow, AreFound, GoesOn};
+ghost use Rattle.kasa_columns.specs.Ask.{IsResultOf, IsSettled, IsSettledFor, stored, IsStoredRow, AreFound, GoesOn};
 ghost use Rattle.kasa_columns.specs.Chosen.{AreColumnChoices, AreAmong, MayBe};
-ghost use Rattle.kasa_columns.specs.Settled.{StandsAfter, IsOutcomeSettled, IsShownSettled, AreStandsSettled};
+ghost use Rattle.kasa_columns.specs.Plan.{AreFreeing, IsAskedAt, IsPlan};
+ghost use Rattle.kasa_columns.specs.Settled.{StandsAfter, IsOutcomeSettled, IsShownSettled, IsAgreeingSettled, IsRowSettled, AreStandsSettled};
 
 use crate::chosen::{States, choices, chosen};
-use crate::collect::{Found, Search, is_full, is_wanted, keep};
+use crate::collect::{Aim, Found, Search, is_full, is_wanted, keep};
 use crate::fired::{Outcome, outcomes};
+use crate::plan::{Asked, Plan, all_asked, freeing_links, kept, may_be_freed, meets_all, plan_for};
 use crate::stands::{Stands, all_stands, leaves_bonds};
 use indexmap::IndexSet;
 use kasa_families::{Local, LocalLink, Locals, NodeSite, Row, Rows, is_row, pattern};
@@ -37,9 +40,16 @@ pub(crate) fn find<R: Rows>(search: &Search<R>) -> Result<Found, NoMemory>
 {
     let all = all_stands(search.alloc, search.sig, search.rule, search.family)?;
     let choices = choices_for(search, all.as_slice())?;
+    let links = freeing_links(search.alloc, search.sig, search.rule)?;
     let mut found = IndexSet::new(search.alloc);
     for stands in &all {
-        try_stands(search, stands.as_slice(), choices.as_slice(), &mut found)?;
+        try_stands(
+            search,
+            stands.as_slice(),
+            choices.as_slice(),
+            links.as_slice(),
+            &mut found,
+        )?;
     }
     Ok(found)
 }
@@ -62,9 +72,11 @@ fn try_stands<R: Rows>(
     search: &Search<R>,
     stands: &[Stand],
     choices: &[States],
+    links: &[LocalLink],
     found: &mut Found,
 ) -> Result<(), NoMemory>
     requires fit { AllZip (FitsStand search.now.rule) stands.now (shape_of search.now.family).types }
+    requires links { AreFreeing search.now.rule links.now }
     requires choices { AreColumnChoices search.now choices.now ⊎ LeavesBonds search.now.rule (shape_of search.now.family).bonds stands.now }
     ensures on { OnOk result (GoesOn search.now found.old.keys found.new.keys) }
     ensures settled { OnOk result (AreStandsSettled search.now (MayBe search.now choices.now stands.now) found.new.keys stands.now) }
@@ -75,7 +87,7 @@ fn try_stands<R: Rows>(
     if is_created(stands) {
         return try_created(search, stands, found);
     }
-    try_stored(search, stands, found)
+    try_stored(search, stands, links, found)
 }
 
 // There is one node, which the rule creates.
@@ -89,22 +101,100 @@ fn is_created(stands: &[Stand]) -> bool
     }
 }
 
-// All outcomes of nodes with the stands that showed rows of the tables.
+// All outcomes of nodes with the stands that showed rows of the tables. Where nothing is written and nothing can be freed,
+// they are rows that the tables have.
 fn try_stored<R: Rows>(
     search: &Search<R>,
     stands: &[Stand],
+    links: &[LocalLink],
     found: &mut Found,
 ) -> Result<(), NoMemory>
     requires fit { AllZip (FitsStand search.now.rule) stands.now (shape_of search.now.family).types }
+    requires links { AreFreeing search.now.rule links.now }
     ensures on { OnOk result (GoesOn search.now found.old.keys found.new.keys) }
     ensures settled { OnOk result (AreStandsSettled search.now (IsStoredRow search.now) found.new.keys stands.now) }
 {
+    let plan = plan_for(
+        search.alloc,
+        search.sig,
+        search.rule,
+        stands,
+        search.columns,
+    )?;
+    if plan.is_idle && links.is_empty() && wants_new(search.aim) {
+        return Ok(());
+    }
     for k in 0..search.rows.rows(search.number) {
-        if let Some(Row::Locals(shown)) = search.rows.row(search.number, k) {
-            try_shown(search, stands, shown.as_slice(), found)?;
+        match search.rows.row(search.number, k) {
+            Some(row) => try_stored_row(search, stands, links, &plan, row, found)?,
+            None => unreachable!(),
         }
     }
     Ok(())
+}
+
+// The same of one row.
+fn try_stored_row<R: Rows>(
+    search: &Search<R>,
+    stands: &[Stand],
+    links: &[LocalLink],
+    plan: &Plan,
+    row: &Row,
+    found: &mut Found,
+) -> Result<(), NoMemory>
+    requires fit { AllZip (FitsStand search.now.rule) stands.now (shape_of search.now.family).types }
+    requires links { AreFreeing search.now.rule links.now }
+    requires plan { IsPlan search.now.rule stands.now search.now.columns plan.now }
+    requires stored { Has (stored search.now) row.now }
+    requires count { (shown : List Local) → row.now ≡ row_of shown → length shown ≡ length search.now.columns }
+    ensures on { OnOk result (GoesOn search.now found.old.keys found.new.keys) }
+    ensures settled { OnOk result (IsRowSettled search.now stands.now found.new.keys row.now) }
+{
+    match row {
+        Row::Locals(shown) => try_row(search, stands, links, plan, shown.as_slice(), found),
+        _ => Ok(()),
+    }
+}
+
+// Rows that the tables have aren't looked for.
+fn wants_new(aim: Aim) -> bool
+    ensures { OnTrue result ((stored found : List Row) (row : Row) → Has stored row → IsSettledFor stored aim found row) }
+{
+    match aim {
+        Aim::UpTo(_) => false,
+        Aim::NewUpTo(_) | Aim::FirstMissing => true,
+    }
+}
+
+// All outcomes of nodes with the stands that showed a row of the tables. It takes no memory for one that comes out as such a
+// row.
+fn try_row<R: Rows>(
+    search: &Search<R>,
+    stands: &[Stand],
+    links: &[LocalLink],
+    plan: &Plan,
+    shown: &[Local],
+    found: &mut Found,
+) -> Result<(), NoMemory>
+    requires fit { AllZip (FitsStand search.now.rule) stands.now (shape_of search.now.family).types }
+    requires links { AreFreeing search.now.rule links.now }
+    requires plan { IsPlan search.now.rule stands.now search.now.columns plan.now }
+    requires stored { IsStoredRow search.now shown.now }
+    requires count { length shown.now ≡ length search.now.columns }
+    ensures on { OnOk result (GoesOn search.now found.old.keys found.new.keys) }
+    ensures settled { OnOk result (IsAgreeingSettled search.now stands.now found.new.keys shown.now) }
+{
+    if is_full(search, found) || !meets_all(plan.asked.as_slice(), shown) {
+        return Ok(());
+    }
+    if may_be_freed(links, plan.effects.as_slice(), shown) {
+        return try_shown(search, stands, shown, found);
+    }
+    if plan.is_idle && wants_new(search.aim) {
+        return Ok(());
+    }
+    let locals = kept(search.alloc, plan.effects.as_slice(), shown);
+    try_locals(search, stands, locals, &[], found)
 }
 
 // All outcomes of a created agent, of which nothing that it showed matters.
@@ -147,11 +237,33 @@ fn try_chosen<R: Rows>(
     ensures on { OnOk result (GoesOn search.now found.old.keys found.new.keys) }
     ensures settled { OnOk result (AreStandsSettled search.now (AreAmong stands.now search.now.columns choices.now) found.new.keys stands.now) }
 {
+    let asked = all_asked(search.alloc, search.rule, stands, search.columns)?;
     let all = chosen(search.alloc, stands, search.columns, choices)?;
+    let asks = asked.as_slice();
     for shown in &all {
-        try_shown(search, stands, shown.as_slice(), found)?;
+        try_choice(search, stands, asks, shown.as_slice(), found)?;
     }
     Ok(())
+}
+
+// The same of one choice, where the left pattern doesn't contradict it.
+fn try_choice<R: Rows>(
+    search: &Search<R>,
+    stands: &[Stand],
+    asked: &[Asked],
+    shown: &[Local],
+    found: &mut Found,
+) -> Result<(), NoMemory>
+    requires fit { AllZip (FitsStand search.now.rule) stands.now (shape_of search.now.family).types }
+    requires asked { (q : AskedParts) → Has asked.now q → IsAskedAt search.now.rule stands.now search.now.columns q }
+    requires count { length shown.now ≡ length search.now.columns }
+    ensures on { OnOk result (GoesOn search.now found.old.keys found.new.keys) }
+    ensures settled { OnOk result (IsAgreeingSettled search.now stands.now found.new.keys shown.now) }
+{
+    if !meets_all(asked, shown) {
+        return Ok(());
+    }
+    try_shown(search, stands, shown, found)
 }
 
 // All outcomes of nodes with the stands that showed these local states.
@@ -195,10 +307,27 @@ fn try_outcome<R: Rows>(
     ensures on { OnOk result (GoesOn search.now found.old.keys found.new.keys) }
     ensures settled { OnOk result (IsOutcomeSettled search.now stands.now found.new.keys out.now) }
 {
-    let row = Row::Locals(Locals::new(search.alloc, out.locals.as_slice()));
+    let locals = Locals::new(search.alloc, out.locals.as_slice());
+    try_locals(search, stands, locals, out.freed.as_slice(), found)
+}
+
+// The same, where the outcome is in two parts.
+fn try_locals<R: Rows>(
+    search: &Search<R>,
+    stands: &[Stand],
+    locals: Locals,
+    freed: &[FreedBy],
+    found: &mut Found,
+) -> Result<(), NoMemory>
+    requires fit { AllZip (FitsStand search.now.rule) stands.now (shape_of search.now.family).types }
+    requires comes { (shown : List Local) × ComesOut search.now.rule stands.now search.now.columns shown (record { locals = locals; freed = freed.now }) }
+    ensures on { OnOk result (GoesOn search.now found.old.keys found.new.keys) }
+    ensures settled { OnOk result (IsOutcomeSettled search.now stands.now found.new.keys (record { locals = locals; freed = freed.now })) }
+{
+    let row = Row::Locals(locals);
     if is_wanted(search, found, &row)
         && is_row(search.sig, search.family, &row)
-        && stands_after(search, &row, stands, out.freed.as_slice())?
+        && stands_after(search, &row, stands, freed)?
     {
         keep(search, found, row)?;
     }

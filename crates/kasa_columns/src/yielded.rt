@@ -1,5 +1,5 @@
 // The rows of a family with columns that a rule yields from tables.
-ghost use Rattle.std.specs.Prelude.{◌≡◌, ◌≤◌, ℕ, length, List, Option, Some, slice_get, IfOk, MatchOption};
+ghost use Rattle.std.specs.Prelude.{◌≡◌, ◌≤◌, ◌+◌, ℕ, length, List, Option, Some, slice_get, IfOk, MatchOption};
 ghost use Rattle.kasa_graph.specs.declared.mixture.Agent.{Agent};
 ghost use Rattle.kasa_graph.specs.Lists.{Has};
 ghost use Rattle.kasa_graph.specs.Mixture.{IsMixtureOver};
@@ -22,48 +22,56 @@ use crate::collect::{Aim, Found, Search};
 use crate::walk::find;
 use kasa_families::{Family, NodeSite, Row, Rows};
 use kasa_graph::Signature;
-use kasa_num::{FamilyNo, NoMemory};
+use kasa_num::{FamilyNo, NoMemory, Steps};
 use kasa_rules::Rule;
 use std::alloc::Global;
+use std::sync::ledger::Ledger;
 
 /// The rows of a family with columns that a rule yields from tables, each once, where they are at most `most`, and else
 /// `most + 1` of them. Where the tables hold all rows that occur in a mixture and the rule fires there, each row that occurs
-/// afterwards is one of them.
-pub fn results<R: Rows>(
+/// afterwards is one of them. It adds one step, whatever it answers.
+pub fn results<R: Rows, L: Ledger>(
     alloc: Global,
     sig: &Signature,
     rows: &R,
     rule: &Rule,
     f: FamilyNo,
     most: usize,
+    steps: &mut Steps<L>,
 ) -> Result<Vec<Row>, NoMemory>
     requires tables { AreTables sig.now (R.tables rows.now) }
     requires over { IsRuleOver sig.now rule.now }
     requires columns { (family : Family) × (slice_get (families_of (R.tables rows.now)) f ≡ Some family) × HasColumns family }
     requires most { most ≤ 200000 }
+    ensures steps { steps.new ≡ steps.old + 1 }
     ensures results { IfOk result (λ found. AreResults sig.now (R.tables rows.now) rule.now f most found.items) }
     ensures follows { IfOk result (λ found. length found.items ≤ most → (m : List (Option Agent)) (cells : List ℕ) (family : Family) (row : Row) → IsMixtureOver sig.now m → Cover sig.now (R.tables rows.now) m → IsEmbedding rule.now.left m cells → slice_get (families_of (R.tables rows.now)) f ≡ Some family → IsRow sig.now family row → Occurs sig.now family row (fire rule.now cells m) → Has found.items row) }
 {
+    steps.tick();
     let found = find_in(alloc, sig, rows, rule, f, Aim::UpTo(most))?;
     listed(alloc, found)
 }
 
 /// The rows of a family with columns that a rule yields from tables and that they don't have, each once, where they are at
-/// most `most`, and else `most + 1` of them. Rows that the tables have cost a look-up each.
-pub fn new_results<R: Rows>(
+/// most `most`, and else `most + 1` of them. Rows that the tables have cost a look-up each. It adds one
+/// step, whatever it answers.
+pub fn new_results<R: Rows, L: Ledger>(
     alloc: Global,
     sig: &Signature,
     rows: &R,
     rule: &Rule,
     f: FamilyNo,
     most: usize,
+    steps: &mut Steps<L>,
 ) -> Result<Vec<Row>, NoMemory>
     requires tables { AreTables sig.now (R.tables rows.now) }
     requires over { IsRuleOver sig.now rule.now }
     requires columns { (family : Family) × (slice_get (families_of (R.tables rows.now)) f ≡ Some family) × HasColumns family }
     requires most { most ≤ 200000 }
-    ensures { IfOk result (λ found. AreNewResults sig.now (R.tables rows.now) rule.now f most found.items) }
+    ensures steps { steps.new ≡ steps.old + 1 }
+    ensures results { IfOk result (λ found. AreNewResults sig.now (R.tables rows.now) rule.now f most found.items) }
 {
+    steps.tick();
     let found = find_in(alloc, sig, rows, rule, f, Aim::NewUpTo(most))?;
     listed(alloc, found)
 }

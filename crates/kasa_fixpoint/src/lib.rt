@@ -1,6 +1,7 @@
 //! The least closed tables of a model over families of patterns.
 #![tactic(auto)]
 
+mod counted;
 mod fault;
 mod growing;
 pub mod laws;

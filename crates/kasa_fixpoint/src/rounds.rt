@@ -17,6 +17,7 @@ ghost use Rattle.kasa_pre.specs.Acts.{TouchesOpen};
 ghost use Rattle.kasa_fixpoint.specs.Growing.{HasGrown};
 ghost use Rattle.kasa_fixpoint.specs.Steps.{IsUnderWay, IsStep, HoldsOccurring, HaveResults};
 
+use crate::counted::new_results;
 use crate::fault::SolveFault;
 use crate::growing::Growing;
 use kasa_families::{Family, Rows};
@@ -25,7 +26,7 @@ use kasa_num::FamilyNo;
 use kasa_pre::{acts_on_all, names_type_of};
 use kasa_rules::{Model, Rule};
 use kasa_tables::Tables;
-use kasa_views::{initial, new_results};
+use kasa_views::initial;
 use std::alloc::Global;
 
 const MOST_ROWS: usize = 200_000;

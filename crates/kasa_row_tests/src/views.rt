@@ -7,6 +7,7 @@ ghost use Rattle.kasa_families.specs.Table.{AreTables, families_of};
 ghost use Rattle.kasa_rules.specs.Rule.{IsRuleOver};
 ghost use Rattle.kasa_views.specs.View.{IsView};
 
+use crate::counted::{new_results, results};
 use kasa_compile::read_model;
 use kasa_families::{Family, Local, LocalLink, Locals, Row, Rows, Sites, is_family};
 use kasa_fixpoint::solve;
@@ -14,7 +15,7 @@ use kasa_graph::Signature;
 use kasa_num::{AgentType, FamilyNo, SiteNo};
 use kasa_rules::{Model, Rule};
 use kasa_tables::Tables;
-use kasa_views::{missing, new_results, results};
+use kasa_views::missing;
 use std::alloc::Global;
 use std::process::Abort;
 use std::test::Fail;

@@ -1,5 +1,5 @@
 // The rows of a view: those that occur in an init, and those that a rule yields from tables.
-ghost use Rattle.std.specs.Prelude.{◌≡◌, ◌≤◌, ◌↔◌, ℕ, length, List, Option, Some, slice_get, IfOk, MatchOption};
+ghost use Rattle.std.specs.Prelude.{◌≡◌, ◌≤◌, ◌+◌, ◌↔◌, ℕ, length, List, Option, Some, slice_get, IfOk, MatchOption};
 ghost use Rattle.kasa_graph.specs.declared.mixture.Agent.{Agent};
 ghost use Rattle.kasa_graph.specs.Lists.{Has};
 ghost use Rattle.kasa_graph.specs.Mixture.{IsMixtureOver};
@@ -19,9 +19,10 @@ ghost use Rattle.kasa_views.specs.View.{IsView};
 use kasa_columns as columns;
 use kasa_families::{Family, Row, Rows};
 use kasa_graph::{Mixture, Signature};
-use kasa_num::{FamilyNo, NoMemory};
+use kasa_num::{FamilyNo, NoMemory, Steps};
 use kasa_rules::Rule;
 use std::alloc::Global;
+use std::sync::ledger::Ledger;
 
 /// The rows of a view that occur in an init, each once, in row order.
 pub fn initial(
@@ -42,20 +43,22 @@ pub fn initial(
 
 /// The rows of a view that a rule yields from tables, each once, where they are at most `most`, and
 /// else `most + 1` of them. Where the tables hold all rows that occur in a mixture and the rule fires there,
-/// each row that occurs afterwards is one of them.
-pub fn results<R: Rows>(
+/// each row that occurs afterwards is one of them. It adds one step, whatever it answers.
+pub fn results<R: Rows, L: Ledger>(
     alloc: Global,
     sig: &Signature,
     rows: &R,
     rule: &Rule,
     f: FamilyNo,
     most: usize,
+    steps: &mut Steps<L>,
 ) -> Result<Vec<Row>, NoMemory>
     requires tables { AreTables sig.now (R.tables rows.now) }
     requires over { IsRuleOver sig.now rule.now }
     requires view { (family : Family) ×
         (slice_get (families_of (R.tables rows.now)) f ≡ Some family) × IsView family }
     requires most { most ≤ 200000 }
+    ensures steps { steps.new ≡ steps.old + 1 }
     ensures results { IfOk result (λ found.
         AreResults sig.now (R.tables rows.now) rule.now f most found.items) }
     ensures follows { IfOk result (λ found. length found.items ≤ most →
@@ -65,28 +68,31 @@ pub fn results<R: Rows>(
         slice_get (families_of (R.tables rows.now)) f ≡ Some family → IsRow sig.now family row →
         Occurs sig.now family row (fire rule.now cells m) → Has found.items row) }
 {
-    columns::results(alloc, sig, rows, rule, f, most)
+    columns::results(alloc, sig, rows, rule, f, most, steps)
 }
 
 /// The rows of a view that a rule yields from tables and that they don't have, each once, where they
-/// are at most `most`, and else `most + 1` of them. Rows that the tables have cost a look-up each.
-pub fn new_results<R: Rows>(
+/// are at most `most`, and else `most + 1` of them. Rows that the tables have cost a look-up each. It adds
+/// one step, whatever it answers.
+pub fn new_results<R: Rows, L: Ledger>(
     alloc: Global,
     sig: &Signature,
     rows: &R,
     rule: &Rule,
     f: FamilyNo,
     most: usize,
+    steps: &mut Steps<L>,
 ) -> Result<Vec<Row>, NoMemory>
     requires tables { AreTables sig.now (R.tables rows.now) }
     requires over { IsRuleOver sig.now rule.now }
     requires view { (family : Family) ×
         (slice_get (families_of (R.tables rows.now)) f ≡ Some family) × IsView family }
     requires most { most ≤ 200000 }
-    ensures { IfOk result (λ found.
+    ensures steps { steps.new ≡ steps.old + 1 }
+    ensures results { IfOk result (λ found.
         AreNewResults sig.now (R.tables rows.now) rule.now f most found.items) }
 {
-    columns::new_results(alloc, sig, rows, rule, f, most)
+    columns::new_results(alloc, sig, rows, rule, f, most, steps)
 }
 
 /// The least row in row order that a rule yields from tables and that they don't have, None exactly where

@@ -32,6 +32,9 @@ try_stands-requires-clause-choices g c =
       | inr leave ↦ inr (leave c.stands-item.result (c.loop-stands.stands-index, rw c.as_slice.ensures.value here))
     ])
 
+pub try_stands-requires-clause-links : goal.try_stands-requires-clause-links
+try_stands-requires-clause-links g c = rw c.as_slice-in-loop-stands-3.ensures.value (rw (← c.search.view_is) c.in_ok-links.ensures)
+
 pub loop-stands-preserved : goal.loop-stands-preserved
 loop-stands-preserved g c =
     let here = slice_get_read c.deref-stands-items.result.now _ c.loop-stands.stands-index c.stands-item.result refl c.loop-stands-test.true c.stands-item.is in (

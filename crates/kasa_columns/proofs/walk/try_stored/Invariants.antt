@@ -1,5 +1,6 @@
 use Rattle.kasa_columns.specs.Ask.{GoesOn, stored}
-use Rattle.kasa_columns.proofs.WalkLemmas.{FirstSettled, IsRowSettled}
+use Rattle.kasa_columns.specs.Settled.{IsRowSettled}
+use Rattle.kasa_columns.proofs.WalkLemmas.{FirstSettled}
 use Rattle.kasa_columns.proofs.walk.try_stored.Given as goal
 
 abbrev pub invariant-loop-k : goal.invariant-loop-k

@@ -1,0 +1,56 @@
+// Calls with a counter of steps that nobody reads.
+ghost use Rattle.std.specs.Prelude.{◌≡◌, ◌≤◌, Some, slice_get, IfOk};
+ghost use Rattle.kasa_families.specs.declared.family.Family.{Family};
+ghost use Rattle.kasa_families.specs.Table.{AreTables, families_of};
+ghost use Rattle.kasa_rules.specs.Rule.{IsRuleOver};
+ghost use Rattle.kasa_columns.specs.Results.{AreNewResults};
+ghost use Rattle.kasa_views.specs.View.{IsView};
+
+use kasa_families::Row;
+use kasa_graph::Signature;
+use kasa_num::{FamilyNo, NoMemory, Steps};
+use kasa_rules::Rule;
+use kasa_tables::Tables;
+use std::alloc::Global;
+use std::marker::Brand;
+use std::sync::ledger::{Blank, Ledger};
+
+// The rows of a view that a rule yields from tables and that they don't have.
+pub(crate) fn new_results(
+    alloc: Global,
+    sig: &Signature,
+    tables: &Tables,
+    rule: &Rule,
+    f: FamilyNo,
+    most: usize,
+) -> Result<Vec<Row>, NoMemory>
+    requires tables { AreTables sig.now tables.now }
+    requires over { IsRuleOver sig.now rule.now }
+    requires view { (family : Family) × (slice_get (families_of tables.now) f ≡ Some family) × IsView family }
+    requires most { most ≤ 200000 }
+    ensures { IfOk result (λ found. AreNewResults sig.now tables.now rule.now f most found.items) }
+{
+    counted::<Brand>(Blank::new(1), alloc, sig, tables, rule, f, most)
+}
+
+fn counted<L: Ledger>(
+    blank: Blank,
+    alloc: Global,
+    sig: &Signature,
+    tables: &Tables,
+    rule: &Rule,
+    f: FamilyNo,
+    most: usize,
+) -> Result<Vec<Row>, NoMemory>
+    requires name { blank.name ≡ L.name }
+    requires parts { blank.parts ≡ L.parts }
+    requires some { L.parts ≡ 1 }
+    requires tables { AreTables sig.now tables.now }
+    requires over { IsRuleOver sig.now rule.now }
+    requires view { (family : Family) × (slice_get (families_of tables.now) f ≡ Some family) × IsView family }
+    requires most { most ≤ 200000 }
+    ensures { IfOk result (λ found. AreNewResults sig.now tables.now rule.now f most found.items) }
+{
+    let mut steps = Steps::<L>::new(blank);
+    kasa_views::new_results(alloc, sig, tables, rule, f, most, &mut steps)
+}
