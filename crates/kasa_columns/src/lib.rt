@@ -14,4 +14,6 @@ mod yielded;
 
 pub use fired::{Outcome, outcomes};
 pub use seen::initial;
+pub use stands::{follow_bond, link_asked, stand_of, stands_of_type};
+pub use written::link_written;
 pub use yielded::{missing, new_results, results};

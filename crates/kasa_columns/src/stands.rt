@@ -83,8 +83,8 @@ pub(crate) fn all_stands(
     Ok(all)
 }
 
-// The stands that a node of a type can have.
-fn stands_of_type(alloc: Global, rule: &Rule, agent: AgentType) -> Result<Vec<Stand>, NoMemory>
+/// The stands that a node of a type can have: outside, at a kept left node of the type, or as a created agent of it.
+pub fn stands_of_type(alloc: Global, rule: &Rule, agent: AgentType) -> Result<Vec<Stand>, NoMemory>
     ensures { IfOk result (λ found. (stand : Stand) → Has found.items stand ↔ FitsStand rule.now stand agent) }
 {
     let mut found = Vec::new(alloc);
@@ -195,7 +195,8 @@ fn follow_bonds(sig: &Signature, rule: &Rule, family: &Family, stands: &[Stand])
     true
 }
 
-fn follow_bond(sig: &Signature, rule: &Rule, stands: &[Stand], bond: &Bond) -> bool
+/// As far as the nodes of a bond have stands, each tells the other's.
+pub fn follow_bond(sig: &Signature, rule: &Rule, stands: &[Stand], bond: &Bond) -> bool
     requires over { IsRuleOver sig.now rule.now }
     requires exist { StandsExist rule.now stands.now }
     ensures { IsTrue result ↔ FollowsBond rule.now stands.now bond.now }
@@ -245,7 +246,8 @@ fn written_leads(stands: &[Stand], there: NodeSite, written: Written) -> bool
     }
 }
 
-fn stand_of(e: End) -> Stand
+/// The stand of a node at the end of a written bond.
+pub fn stand_of(e: End) -> Stand
     ensures { result ≡ stand_of e }
 {
     match e {
@@ -278,8 +280,8 @@ fn stand_leads(
     }
 }
 
-// The link test of a left node at a site, which may not exist.
-fn link_asked(rule: &Rule, node: NodeNo, here: NodeSite) -> LinkTest
+/// The link test of a left node at a site, Any where the site doesn't exist.
+pub fn link_asked(rule: &Rule, node: NodeNo, here: NodeSite) -> LinkTest
     requires { node < length rule.now.left }
     ensures { result ≡ link_test rule.now.left node here.site }
 {

@@ -117,8 +117,9 @@ pub(crate) fn state_written(
     }
 }
 
-// The same of the link.
-pub(crate) fn link_written(
+/// The link that a rule writes at a site of a node with a stand. At a site that doesn't exist that is none, and at one of a
+/// created agent it is free.
+pub fn link_written(
     sig: &Signature,
     rule: &Rule,
     stand: &Stand,
