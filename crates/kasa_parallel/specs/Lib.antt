@@ -1,0 +1,3 @@
+pub mod Parallel
+pub mod Partners
+pub mod Sought
