@@ -1,0 +1,12 @@
+pub mod Grids
+pub mod MixedLemmas
+pub mod KeyLemmas
+pub mod ProductLemmas
+pub mod RunLemmas
+pub mod TextLemmas
+pub mod ShownLemmas
+pub mod DeadLemmas
+pub mod TableLemmas
+pub mod SortedRows
+pub mod ReportLemmas
+pub mod SiteLemmas

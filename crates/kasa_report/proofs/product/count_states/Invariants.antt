@@ -1,0 +1,6 @@
+use Rattle.kasa_families.specs.declared.row.Local.{Local}
+use Rattle.kasa_report.proofs.KeyLemmas.{AreKeys}
+use Rattle.kasa_report.proofs.product.count_states.Given as goal
+
+abbrev pub invariant-loop-row : goal.invariant-loop-row
+invariant-loop-row l = AreKeys l.rows l.k (λ (o : Local). o.state) l.row-index l.states.keys

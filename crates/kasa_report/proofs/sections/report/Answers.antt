@@ -1,0 +1,14 @@
+use Rattle.std.proofs.Common.{ap, ◌∙◌}
+use Rattle.kasa_rules.specs.declared.model.Model.{Model}
+use Rattle.kasa_report.proofs.ReportLemmas.{report_is}
+use Rattle.kasa_report.proofs.sections.report.Goals as goal
+
+pub write_dead-requires-clause-over : goal.write_dead-requires-clause-over
+write_dead-requires-clause-over g c = λ r has. c.model.invariant.0.rules has.0 r (rw c.as_slice.ensures at has.1)
+
+pub returns : goal.returns
+returns g c =
+    let is = c.in_ok-map.ensures in
+    report_is c.args.model.now (g.R.Rows.tables c.args.rows.now) c.model.inside.sig c.as_slice.result.now (ap (λ (m : Model). m.sig) c.model.view_is) (c.as_slice.ensures ∙ ap (λ (m : Model). m.rules) c.model.view_is)
+    c.in_ok-map.map (record { bonds = is.bonds; states = is.states; bonds_ascend = is.bonds_ascend; states_ascend = is.states_ascend }) c.in_ok-verdict.verdict c.in_ok-verdict.ensures.verdict
+    c.new-out.result.items c.write_map.new.out.items c.write_lemmas.new.out.items c.write_dead.new.out.items _ c.new-out.ensures.items c.in_ok-write_map.ensures c.in_ok-write_lemmas.ensures c.in_ok-write_dead.ensures c.in_ok-write_polymers.ensures

@@ -1,0 +1,12 @@
+//! The printed report of a model over tables: contact map, lemmas, dead rules and the verdict on polymers.
+#![tactic(auto)]
+
+mod dead;
+mod lemmas;
+mod map;
+mod polymers;
+mod product;
+mod sections;
+mod write;
+
+pub use sections::report;
