@@ -119,12 +119,7 @@ pub(crate) fn state_written(
 
 /// The link that a rule writes at a site of a node with a stand. At a site that doesn't exist that is none, and at one of a
 /// created agent it is free.
-pub fn link_written(
-    sig: &Signature,
-    rule: &Rule,
-    stand: &Stand,
-    site: SiteNo,
-) -> Option<Written>
+pub fn link_written(sig: &Signature, rule: &Rule, stand: &Stand, site: SiteNo) -> Option<Written>
     requires over { IsRuleOver sig.now rule.now }
     requires exists { StandExists rule.now stand.now }
     ensures { result ≡ link_written rule.now stand.now site }

@@ -1,6 +1,8 @@
 -- Tables that take in one row, and then more of them.
-use Rattle.std.proofs.Common.{◌≡◌, ◌≢◌, ℕ, zero, suc, ◌+◌, ◌≤◌, ◌⊎◌, inl, inr, Bool, true, false, ◌||◌, List, [], ◌∷◌, ◌++◌, length, take, refl, sym, ◌∙◌, arith}
-use Rattle.std.specs.Prelude.{Option, Some, slice_get}
+use Rattle.std.proofs.Common.{◌≡◌, ◌≢◌, ℕ, zero, suc, ◌⊎◌, inl, inr, Bool, true, false, ◌||◌, List, [], ◌∷◌, ◌++◌, length, take, refl, sym, ◌∙◌, arith, length-append}
+use Rattle.std.specs.Prelude.{Option, Some, Ok, Err, Result, ◌↔◌, ◌<◌, slice_get}
+use Rattle.kasa_tables.specs.declared.plain.InsertFault.{InsertFault}
+use Rattle.kasa_tables.specs.declared.plain.InsertFault.TheVariants.{Full as full_fault}
 use Rattle.std.specs.Iterator.{Yields}
 use Rattle.std.proofs.lemmas.Iterator.{YieldsList}
 use Rattle.std.proofs.lemmas.Iterator.Consumers.{YieldsList-so_far, YieldsList-turn}
@@ -14,8 +16,7 @@ use Rattle.kasa_families.specs.Table.{Table, families_of, rows_of}
 use Rattle.kasa_families.proofs.TableLemmas.{table_of}
 use Rattle.kasa_tables.specs.Insert.{with_last, with_row, row_count}
 use Rattle.kasa_tables.proofs.PlainLemmas.{row_count-with_row}
-use Rattle.kasa_fixpoint.specs.declared.growing.Growing.{Growing}
-use Rattle.kasa_fixpoint.specs.Growing.{HaveDifferentRows, HaveRowsOf, HasRoom, HasGrown, TakesIn, LacksRoom}
+use Rattle.kasa_fixpoint.specs.Growing.{HaveDifferentRows, HaveRowsOf, HasRoomForRows, HaveMoreRows, TakesIn, LacksRoom}
 use Rattle.kasa_fixpoint.proofs.CountLemmas.{row_count-within}
 
 -- ---- one row
@@ -62,31 +63,72 @@ module _ (tables : List Table) (f : ℕ) (t : Table) (row : Row) (at : slice_get
     | inr here ↦ rw (here.0, only_one row other here.1) has
   ]
 
-module _ (f : ℕ) (family : Family) (row : Row) (old : Growing) (room : HasRoom old) (named : slice_get (families_of old.tables) f ≡ Some family) (fresh : ¬ Has (rows_of old.tables f) row) where
-  pub TakesIn-with_row : (new : Growing) → new.tables ≡ with_row old.tables f row → new.room + 1 ≡ old.room → new.most ≡ old.most → TakesIn f (row ∷ []) old new
-  TakesIn-with_row new same less most =
-      let t = table_of old.tables f family named in
-      let more = row_count-with_row old.tables f t.0 row t.1 in
-      let counted = room.counted in
+pub HaveMoreRows-none : (f : ℕ) (tables : List Table) → HaveMoreRows f tables tables false
+HaveMoreRows-none f tables = record { more = λ e. absurd cc; others = λ k ne. refl; same = λ e k. refl }
+
+module _ (f : ℕ) (family : Family) (row : Row) (old : List Table) (room : HasRoomForRows old) (named : slice_get (families_of old) f ≡ Some family) where
+  module _ (fresh : ¬ Has (rows_of old f) row) where
+    pub TakesIn-with_row : (new : List Table) → new ≡ with_row old f row → row_count old < 200000 → TakesIn f (row ∷ []) old new
+    TakesIn-with_row new same less =
+        let t = table_of old f family named in
+        let more = row_count-with_row old f t.0 row t.1 in
+        record {
+          has_room = record {
+            different = rw same (differ old f t.0 row t.1 fresh room.different);
+            few = rw same (omega arith);
+          };
+          families = rw same (map-update_same (λ (t : Table). t.family) (with_last row) old f t.0 t.1 refl);
+          kept = rw same (kept old f t.0 row t.1);
+          held = λ other has. rw (same, only_one row other has) (held old f t.0 row t.1);
+          only = rw same (only old f t.0 row t.1);
+        }
+
+    pub LacksRoom-full : row_count old ≡ 200000 → LacksRoom f (row ∷ []) old
+    LacksRoom-full full others have has =
+        let t = table_of old f family named in
+        let more = row_count-with_row old f t.0 row t.1 in
+        let count = row_count-within (with_row old f row) others (differ old f t.0 row t.1 fresh room.different) (within old f t.0 row t.1 others have (has row (0, refl))) in
+        omega arith
+
+  pub HaveMoreRows-with_row : (new : List Table) → new ≡ with_row old f row → HaveMoreRows f old new true
+  HaveMoreRows-with_row new same =
+      let t = table_of old f family named in
       record {
-        has_room = record {
-          different = rw same (differ old.tables f t.0 row t.1 fresh room.different);
-          counted = rw same (omega arith);
-          few = rw most room.few;
-        };
-        families = rw same (map-update_same (λ (t : Table). t.family) (with_last row) old.tables f t.0 t.1 refl);
-        most = most;
-        kept = rw same (kept old.tables f t.0 row t.1);
-        held = λ other has. rw (same, only_one row other has) (held old.tables f t.0 row t.1);
-        only = rw same (only old.tables f t.0 row t.1);
+        more = λ e. rw (same, rows_of-with_row_same old f t.0 row t.1) (let longer = length-append (rows_of old f) (row ∷ []) in omega arith);
+        others = λ k ne. rw (same, rows_of-with_row_other old f k row (λ e. ne (sym e))) refl;
+        same = λ e. absurd cc;
       }
 
-  pub LacksRoom-full : old.most ≤ row_count old.tables → LacksRoom f (row ∷ []) old
-  LacksRoom-full full others have has =
-      let t = table_of old.tables f family named in
-      let more = row_count-with_row old.tables f t.0 row t.1 in
-      let count = row_count-within (with_row old.tables f row) others (differ old.tables f t.0 row t.1 fresh room.different) (within old.tables f t.0 row t.1 others have (has row (0, refl))) in
-      omega arith
+  pub TakesIn-there : (new : List Table) → new ≡ old → Has (rows_of old f) row → TakesIn f (row ∷ []) old new
+  TakesIn-there new same there = rw same (record {
+    has_room = room;
+    families = refl;
+    kept = λ k other has. has;
+    held = λ other has. rw (only_one row other has) there;
+    only = λ k other has. inl has;
+  })
+
+  -- an answer of the tables
+  module _ (new : List Table) (r : Result Bool InsertFault) (added : r ≡ Ok true → new ≡ with_row old f row) (there : r ≡ Ok false ↔ Has (rows_of old f) row) (same : r ≢ Ok true → new ≡ old) (full : r ≡ Err full_fault ↔ ((¬ Has (rows_of old f) row) × (row_count old ≡ 200000))) where
+    is_fresh : r ≡ Ok true → ¬ Has (rows_of old f) row
+    is_fresh e has = let no = there.1 has in cc
+
+    is_less : r ≡ Ok true → row_count old < 200000
+    is_less e = elim (same_or_not (row_count old) 200000) [
+      | inl h ↦ absurd (let no = full.1 (is_fresh e, h) in cc)
+      | inr ne ↦ let few = room.few in omega (arith, ne)
+    ]
+
+    pub TakesIn-inserted : (is_new : Bool) → r ≡ Ok is_new → TakesIn f (row ∷ []) old new
+    TakesIn-inserted true e = TakesIn-with_row (is_fresh e) new (added e) (is_less e)
+    TakesIn-inserted false e = TakesIn-there new (same (λ h. cc)) (there.0 e)
+
+    pub HaveMoreRows-inserted : (is_new : Bool) → r ≡ Ok is_new → HaveMoreRows f old new is_new
+    HaveMoreRows-inserted true e = HaveMoreRows-with_row new (added e)
+    HaveMoreRows-inserted false e = rw (same (λ h. cc)) (HaveMoreRows-none f old)
+
+    pub LacksRoom-inserted : r ≡ Err full_fault → LacksRoom f (row ∷ []) old
+    LacksRoom-inserted e = let f = full.0 e in LacksRoom-full f.0 f.1
 
 -- ---- one after another
 
@@ -105,21 +147,19 @@ yielded-among {all = all} list xs t so_far r u x is step y has =
     let next = take-next all (length xs) x (slice_get_read all _ (length xs) x refl turn.0 turn.1) in
     Has-take all (suc (length xs)) y (rw (next, ← each) has)
 
-pub TakesIn-[] : (f : ℕ) (g : Growing) → HasRoom g → TakesIn f [] g g
-TakesIn-[] f g room = record {
+pub TakesIn-[] : (f : ℕ) (tables : List Table) → HasRoomForRows tables → TakesIn f [] tables tables
+TakesIn-[] f tables room = record {
   has_room = room;
   families = refl;
-  most = refl;
   kept = λ k row has. has;
   held = λ row has. absurd (let e = has.1 in cc);
   only = λ k row has. inl has;
 }
 
-pub TakesIn-then : (f : ℕ) (rows : List Row) (row : Row) (a b c : Growing) → TakesIn f rows a b → TakesIn f (row ∷ []) b c → TakesIn f (rows ++ row ∷ []) a c
+pub TakesIn-then : (f : ℕ) (rows : List Row) (row : Row) (a b c : List Table) → TakesIn f rows a b → TakesIn f (row ∷ []) b c → TakesIn f (rows ++ row ∷ []) a c
 TakesIn-then f rows row a b c first second = record {
   has_room = second.has_room;
   families = second.families ∙ first.families;
-  most = second.most ∙ first.most;
   kept = λ k other has. second.kept k other (first.kept k other has);
   held = λ other has. elim (Has-append rows (row ∷ []) other has) [
     | inl before ↦ second.kept f other (first.held other before)
@@ -134,19 +174,32 @@ TakesIn-then f rows row a b c first second = record {
   ];
 }
 
-pub LacksRoom-then : (f : ℕ) (rows all : List Row) (row : Row) (a b : Growing) → TakesIn f rows a b → ((other : Row) → Has (rows ++ row ∷ []) other → Has all other) → LacksRoom f (row ∷ []) b → LacksRoom f all a
+pub LacksRoom-then : (f : ℕ) (rows all : List Row) (row : Row) (a b : List Table) → TakesIn f rows a b → ((other : Row) → Has (rows ++ row ∷ []) other → Has all other) → LacksRoom f (row ∷ []) b → LacksRoom f all a
 LacksRoom-then f rows all row a b takes among lacks others have has =
-    rw (← takes.most) (lacks others (λ k other there. elim (takes.only k other there) [
+    lacks others (λ k other there. elim (takes.only k other there) [
       | inl before ↦ have k other before
       | inr here ↦ rw here.0 (has other (among other (Has-left rows (row ∷ []) other here.1)))
-    ]) (λ other here. has other (among other (Has-right rows (row ∷ []) other here))))
-
-pub HasGrown-none : (g : Growing) → HasGrown g g false
-HasGrown-none g = record { fewer = λ e. absurd cc; same = λ e. refl }
+    ]) (λ other here. has other (among other (Has-right rows (row ∷ []) other here)))
 
 -- where something grew, it did so in one of two steps, or in both
-pub HasGrown-then : (a b c : Growing) (first second : Bool) → HasGrown a b first → HasGrown b c second → HasGrown a c (first || second)
-HasGrown-then a b c true true h k = record { fewer = λ e. let p = h.fewer refl in let q = k.fewer refl in omega arith; same = λ e. absurd cc }
-HasGrown-then a b c true false h k = record { fewer = λ e. rw (k.same refl) (h.fewer refl); same = λ e. absurd cc }
-HasGrown-then a b c false true h k = record { fewer = λ e. rw (sym (h.same refl)) (k.fewer refl); same = λ e. absurd cc }
-HasGrown-then a b c false false h k = record { fewer = λ e. absurd cc; same = λ e. k.same refl ∙ h.same refl }
+pub HaveMoreRows-then : (f : ℕ) (a b c : List Table) (first second : Bool) → HaveMoreRows f a b first → HaveMoreRows f b c second → HaveMoreRows f a c (first || second)
+HaveMoreRows-then f a b c true true h k = record {
+  more = λ e. let p = h.more refl in let q = k.more refl in omega arith;
+  others = λ i ne. k.others i ne ∙ h.others i ne;
+  same = λ e. absurd cc;
+}
+HaveMoreRows-then f a b c true false h k = record {
+  more = λ e. rw (k.same refl f) (h.more refl);
+  others = λ i ne. k.others i ne ∙ h.others i ne;
+  same = λ e. absurd cc;
+}
+HaveMoreRows-then f a b c false true h k = record {
+  more = λ e. rw (sym (h.same refl f)) (k.more refl);
+  others = λ i ne. k.others i ne ∙ h.others i ne;
+  same = λ e. absurd cc;
+}
+HaveMoreRows-then f a b c false false h k = record {
+  more = λ e. absurd cc;
+  others = λ i ne. k.others i ne ∙ h.others i ne;
+  same = λ e i. k.same refl i ∙ h.same refl i;
+}

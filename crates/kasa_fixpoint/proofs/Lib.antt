@@ -2,7 +2,11 @@ pub mod CountLemmas
 pub mod GrowLemmas
 pub mod TableRows
 pub mod StepLemmas
-pub mod SettledLemmas
 pub mod LoopLemmas
-pub mod SolveLemmas
 pub mod ReadLemmas
+pub mod PairLemmas
+pub mod ReaderLemmas
+pub mod SystemLemmas
+pub mod BoundLemmas
+pub mod ApplyLemmas
+pub mod SolveLemmas

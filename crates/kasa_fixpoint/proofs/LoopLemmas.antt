@@ -1,5 +1,5 @@
 -- What holds of one number more.
-use Rattle.std.proofs.Common.{◌≡◌, ℕ, ◌+◌, ◌<◌, inl, inr, Bool, true, false, ◌||◌, List, length, refl, arith}
+use Rattle.std.proofs.Common.{◌≡◌, ℕ, ◌+◌, ◌<◌, inl, inr, List, length, arith}
 use Rattle.std.specs.Prelude.{Option, Some, slice_get}
 use Rattle.std.proofs.lemmas.Option.{slice_get_within}
 use Rattle.kasa_graph.specs.declared.mixture.Agent.{Agent}
@@ -9,8 +9,6 @@ use Rattle.kasa_families.specs.Table.{Table, families_of}
 use Rattle.kasa_families.proofs.TableLemmas.{table_of}
 use Rattle.kasa_rules.specs.declared.model.Model.{Model}
 use Rattle.kasa_pre.specs.Closed.{Cover}
-use Rattle.kasa_fixpoint.specs.declared.growing.Growing.{Growing}
-use Rattle.kasa_fixpoint.specs.Growing.{HasGrown}
 use Rattle.kasa_fixpoint.specs.Steps.{IsStep, HoldsOccurring}
 use Rattle.kasa_fixpoint.proofs.TableRows.{IsWithin-rows}
 
@@ -23,26 +21,20 @@ one_more n P before here k below = elim (same_or_not k n) [
 pub within_tables : (tables : List Table) (f : ℕ) (family : Family) → slice_get (families_of tables) f ≡ Some family → f < length tables
 within_tables tables f family named = let t = table_of tables f family named in slice_get_within tables f t.0 t.1
 
--- where nothing grew, what held of the tables holds still
-pub settled_next : (P : List Table → ℕ → Type 0) (old new : Growing) (grew more : Bool) (n : ℕ) → HasGrown old new more → (grew ≡ false → (k : ℕ) → k < n → P old.tables k) → (more ≡ false → P new.tables n) → (grew || more) ≡ false → (k : ℕ) → k < n + 1 → P new.tables k
-settled_next P old new false false n grown before here e = one_more n (P new.tables) (λ k below. rw (grown.same refl) (before refl k below)) (here refl)
-settled_next P old new true more n grown before here e = absurd cc
-settled_next P old new false true n grown before here e = absurd cc
+module _ (model : Model) (old new : List Table) (step : IsStep model old new) where
+  HoldsOccurring-step : (family : Family) (m : List (Option Agent)) → HoldsOccurring model.sig old family m → HoldsOccurring model.sig new family m
+  HoldsOccurring-step family m holds row valid occurs = IsWithin-rows old new step.families step.kept family row (holds row valid occurs)
 
-module _ (model : Model) (old new : Growing) (step : IsStep model old new) where
-  HoldsOccurring-step : (family : Family) (m : List (Option Agent)) → HoldsOccurring model.sig old.tables family m → HoldsOccurring model.sig new.tables family m
-  HoldsOccurring-step family m holds row valid occurs = IsWithin-rows old.tables new.tables step.families step.kept family row (holds row valid occurs)
-
-  pub Cover-step : (m : List (Option Agent)) → Cover model.sig old.tables m → Cover model.sig new.tables m
+  pub Cover-step : (m : List (Option Agent)) → Cover model.sig old m → Cover model.sig new m
   Cover-step m covers family has = HoldsOccurring-step family m (covers family (rw step.families at has))
 
-  pub occurring_next : (n : ℕ) (m : List (Option Agent)) → ((k : ℕ) → k < n → (family : Family) → slice_get (families_of old.tables) k ≡ Some family → HoldsOccurring model.sig old.tables family m) → ((family : Family) → slice_get (families_of old.tables) n ≡ Some family → HoldsOccurring model.sig new.tables family m) → (k : ℕ) → k < n + 1 → (family : Family) → slice_get (families_of new.tables) k ≡ Some family → HoldsOccurring model.sig new.tables family m
+  pub occurring_next : (n : ℕ) (m : List (Option Agent)) → ((k : ℕ) → k < n → (family : Family) → slice_get (families_of old) k ≡ Some family → HoldsOccurring model.sig old family m) → ((family : Family) → slice_get (families_of old) n ≡ Some family → HoldsOccurring model.sig new family m) → (k : ℕ) → k < n + 1 → (family : Family) → slice_get (families_of new) k ≡ Some family → HoldsOccurring model.sig new family m
   occurring_next n m before here k below family named =
-      one_more n (λ (k : ℕ). slice_get (families_of old.tables) k ≡ Some family → HoldsOccurring model.sig new.tables family m) (λ k lower at. HoldsOccurring-step family m (before k lower family at)) (here family) k below (rw step.families at named)
+      one_more n (λ (k : ℕ). slice_get (families_of old) k ≡ Some family → HoldsOccurring model.sig new family m) (λ k lower at. HoldsOccurring-step family m (before k lower family at)) (here family) k below (rw step.families at named)
 
-  pub covers_next : (inits : List (List (Option Agent))) (n : ℕ) (init : List (Option Agent)) → slice_get inits n ≡ Some init → ((i : ℕ) → i < n → (m : List (Option Agent)) → slice_get inits i ≡ Some m → Cover model.sig old.tables m) → Cover model.sig new.tables init → (i : ℕ) → i < n + 1 → (m : List (Option Agent)) → slice_get inits i ≡ Some m → Cover model.sig new.tables m
+  pub covers_next : (inits : List (List (Option Agent))) (n : ℕ) (init : List (Option Agent)) → slice_get inits n ≡ Some init → ((i : ℕ) → i < n → (m : List (Option Agent)) → slice_get inits i ≡ Some m → Cover model.sig old m) → Cover model.sig new init → (i : ℕ) → i < n + 1 → (m : List (Option Agent)) → slice_get inits i ≡ Some m → Cover model.sig new m
   covers_next inits n init is before here i below m at =
-      one_more n (λ (i : ℕ). slice_get inits i ≡ Some m → Cover model.sig new.tables m)
+      one_more n (λ (i : ℕ). slice_get inits i ≡ Some m → Cover model.sig new m)
       (λ i lower at'. Cover-step m (before i lower m at'))
       (λ at'. let same : init ≡ m = cc in rw same at here)
       i below at

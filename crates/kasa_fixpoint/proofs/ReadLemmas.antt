@@ -1,10 +1,9 @@
 -- What a rule yields from larger tables, and from tables that have what it reads.
-use Rattle.std.proofs.Common.{◌≡◌, ℕ, ◌<◌, ◌⊎◌, inl, inr, List, [], ◌∷◌, ◌++◌, refl, sym, ◌∙◌, length, arith}
-use Rattle.std.specs.Prelude.{Some, slice_get}
+use Rattle.std.proofs.Common.{◌≡◌, ℕ, ◌<◌, inl, inr, List, [], ◌∷◌, ◌++◌, sym, ◌∙◌, arith}
 use Rattle.kasa_graph.specs.declared.pattern.Node.{Node}
 use Rattle.kasa_graph.specs.Signature.{TypeEntry}
 use Rattle.kasa_graph.specs.Lists.{Has}
-use Rattle.kasa_graph.specs.Pattern.{agent_at, types_of}
+use Rattle.kasa_graph.specs.Pattern.{types_of}
 use Rattle.kasa_lists.proofs.Elements.{some_at}
 use Rattle.kasa_lists.proofs.Having.{Has-[], Has-head, Has-later, Has-cons, Has-append}
 use Rattle.kasa_graph.proofs.ShapeLemmas.{agent_at-node}
@@ -16,7 +15,7 @@ use Rattle.kasa_families.specs.declared.row.Row.TheVariants.{Different}
 use Rattle.kasa_families.specs.Family.{family_types, root}
 use Rattle.kasa_families.specs.Row.{IsRow}
 use Rattle.kasa_families.specs.Pattern.{row_pattern}
-use Rattle.kasa_families.specs.Table.{Table, families_of, Holds, IsWithin}
+use Rattle.kasa_families.specs.Table.{Table, families_of, IsWithin}
 use Rattle.kasa_families.proofs.RowPattern.{row_types, types_of-row_pattern}
 use Rattle.kasa_families.proofs.FamilyShape.{some_types}
 use Rattle.kasa_rules.specs.Rule.{RuleParts}
@@ -79,8 +78,7 @@ module _ (sig : List TypeEntry) (r : RuleParts) (family : Family) (row : Row) (v
       let count = at.count ∙ length-root sig other in
       let first = some_at place 0 (let some = positive other in omega arith) in
       let node = some_at (root sig other) 0 (let some = positive other in let size = length-root sig other in omega arith) in
-      let typed = at.types 0 first.0 node.0.agent first.1 (agent_at-node (root sig other) 0 node.0 node.1) in
-      (
+      let typed = at.types 0 first.0 node.0.agent first.1 (agent_at-node (root sig other) 0 node.0 node.1) in (
         node.0.agent,
         rooted-stands sig other g first.0 node.0.agent place (record { stands = at; first = first.1 }) typed,
         read_type node.0.agent (first.0, sym (agent_at-types g first.0) ∙ typed),

@@ -1,9 +1,9 @@
 -- Rows that each closed tables hold: one step, and steps one after another.
-use Rattle.std.proofs.Common.{◌≡◌, ℕ, ◌<◌, inl, inr, ◌↔◌, List, [], ◌∷◌, length, refl, sym, ◌∙◌, arith}
+use Rattle.std.proofs.Common.{◌≡◌, ℕ, inl, inr, ◌↔◌, List, refl, sym, ◌∙◌}
 use Rattle.std.specs.Prelude.{Option, Some, slice_get}
 use Rattle.kasa_graph.specs.declared.mixture.Agent.{Agent}
 use Rattle.kasa_graph.specs.Signature.{TypeEntry}
-use Rattle.kasa_graph.specs.Lists.{Has, AllDifferent}
+use Rattle.kasa_graph.specs.Lists.{Has}
 use Rattle.kasa_families.specs.declared.family.Family.{Family}
 use Rattle.kasa_families.specs.declared.family.Family.TheVariants.{Parallel}
 use Rattle.std.proofs.lemmas.Slice.Zip.{AllZip-long}
@@ -16,97 +16,58 @@ use Rattle.kasa_families.specs.Row.{IsRow}
 use Rattle.kasa_families.specs.Pattern.{Occurs}
 use Rattle.kasa_families.specs.Table.{Table, AreTables, families_of, rows_of, HasShape, Holds, IsWithin}
 use Rattle.kasa_rules.specs.declared.model.Model.{Model}
-use Rattle.kasa_rules.specs.Rule.{RuleParts}
-use Rattle.kasa_columns.specs.Results.{IsResult}
-use Rattle.kasa_views.proofs.Forward.{length-locals}
-use Rattle.kasa_pre.specs.Closed.{IsYielded, IsClosed}
-use Rattle.kasa_pre.proofs.AllowedLemmas.{IsAllowed-within}
-use Rattle.kasa_fixpoint.specs.declared.growing.Growing.{Growing}
+use Rattle.kasa_pre.specs.Closed.{IsClosed}
 use Rattle.kasa_fixpoint.specs.Limit.{PassesLimit}
 use Rattle.kasa_fixpoint.specs.Growing.{TakesIn, LacksRoom}
 use Rattle.kasa_fixpoint.specs.Steps.{AreDue, IsUnderWay, IsStep}
-use Rattle.kasa_fixpoint.proofs.CountLemmas.{length-within, length-rows_of}
 use Rattle.kasa_fixpoint.proofs.TableRows.{Holds-at, number_of, Has-at, HaveRowsOf-within, AreTables-takes}
 
--- what is yielded from tables is yielded from larger ones
-pub IsYielded-within : (model : Model) (first second : List Table) (family : Family) (row : Row) → families_of second ≡ families_of first → IsWithin first second → IsYielded model first family row → IsYielded model second family row
-IsYielded-within model first second family row same within (k, r, e, y) = (
-  k,
-  r,
-  e,
-  record {
-    stands = y.stands;
-    freed = y.freed;
-    pattern = y.pattern;
-    free = y.free;
-    before = y.before;
-    allowed = IsAllowed-within model.sig first second y.pattern same within y.allowed;
-  },
-)
-
-module _ (model : Model) (old : Growing) (under_way : IsUnderWay model old) (f : ℕ) (family : Family) (rows : List Row) (named : slice_get (families_of old.tables) f ≡ Some family) (due : AreDue model old.tables family rows) where
+module _ (model : Model) (old : List Table) (under_way : IsUnderWay model old) (f : ℕ) (family : Family) (rows : List Row) (named : slice_get (families_of old) f ≡ Some family) (due : AreDue model family rows) where
   -- closed tables hold what is due
-  due_held : (others : List Table) → AreTables model.sig others → families_of others ≡ families_of old.tables → IsClosed model others → (row : Row) → Has rows row → Holds others family row
+  due_held : (others : List Table) → AreTables model.sig others → families_of others ≡ families_of old → IsClosed model others → (row : Row) → Has rows row → Holds others family row
   due_held others ok same closed row has =
       let d = due row has in
-      closed family (rw same (f, named)) row d.0 (elim d.1 [
-        | inl initial ↦ inl initial
-        | inr yielded ↦ inr (IsYielded-within model old.tables others family row same (under_way.forced others ok same closed) yielded)
-      ])
+      closed family (rw same (f, named)) row d.0 (inl d.1)
 
-  due_at : (others : List Table) → AreTables model.sig others → families_of others ≡ families_of old.tables → IsClosed model others → (row : Row) → Has rows row → Has (rows_of others f) row
+  due_at : (others : List Table) → AreTables model.sig others → families_of others ≡ families_of old → IsClosed model others → (row : Row) → Has rows row → Has (rows_of others f) row
   due_at others ok same closed row has = Has-at others f family row ok.different (rw same named) (due_held others ok same closed row has)
 
-  still_forced : (new : Growing) → TakesIn f rows old new → (others : List Table) → AreTables model.sig others → families_of others ≡ families_of old.tables → IsClosed model others → IsWithin new.tables others
+  still_forced : (new : List Table) → TakesIn f rows old new → (others : List Table) → AreTables model.sig others → families_of others ≡ families_of old → IsClosed model others → IsWithin new others
   still_forced new takes others ok same closed other row holds =
-      let n = number_of new.tables other row holds in
-      let at : slice_get (families_of old.tables) n.0 ≡ Some other = rw takes.families at n.1 in
+      let n = number_of new other row holds in
+      let at : slice_get (families_of old) n.0 ≡ Some other = rw takes.families at n.1 in
       elim (takes.only n.0 row n.2) [
-        | inl before ↦ under_way.forced others ok same closed other row (Holds-at old.tables n.0 other row at before)
+        | inl before ↦ under_way.forced others ok same closed other row (Holds-at old n.0 other row at before)
         | inr here ↦
-            let also : slice_get (families_of old.tables) f ≡ Some other = rw here.0 at at in
+            let also : slice_get (families_of old) f ≡ Some other = rw here.0 at at in
             let is : family ≡ other = cc in
             rw is at (due_held others ok same closed row here.1)
       ]
 
-  pub IsStep-takes : (new : Growing) → TakesIn f rows old new → IsStep model old new
+  pub IsStep-takes : (new : List Table) → TakesIn f rows old new → IsStep model old new
   IsStep-takes new takes = record {
     under_way = record {
       has_room = takes.has_room;
       are_tables = AreTables-takes model.sig old new f family rows under_way.are_tables named (λ row has. (due row has).0) takes;
-      views = λ other has. under_way.views other (rw takes.families at has);
+      columns = λ other has. under_way.columns other (rw takes.families at has);
       forced = λ others ok same closed. still_forced new takes others ok (same ∙ takes.families) closed;
     };
     families = takes.families;
-    most = takes.most;
     kept = takes.kept;
   }
 
   -- closed tables have too many rows where there is no room for what is due, or too much of it
-  pub PassesLimit-lacks : LacksRoom f rows old → PassesLimit old.most model (families_of old.tables)
+  pub PassesLimit-lacks : LacksRoom f rows old → PassesLimit 200000 model (families_of old)
   PassesLimit-lacks lacks others ok same closed =
-      lacks others (HaveRowsOf-within old.tables others under_way.are_tables.different same (under_way.forced others ok same closed)) (due_at others ok same closed)
-
-  pub PassesLimit-many : AllDifferent rows → old.most < length rows → PassesLimit old.most model (families_of old.tables)
-  PassesLimit-many different many others ok same closed =
-      let these = length-within rows (rows_of others f) different (due_at others ok same closed) in
-      let all = length-rows_of others f in
-      omega arith
+      lacks others (HaveRowsOf-within old others under_way.are_tables.different same (under_way.forced others ok same closed)) (due_at others ok same closed)
 
 -- ---- what is due
 
--- rows that a rule yields
-pub AreDue-results : (model : Model) (tables : List Table) (r : RuleParts) (f : ℕ) (family : Family) (rows : List Row) → Has model.rules r → slice_get (families_of tables) f ≡ Some family → ((row : Row) → Has rows row → IsResult model.sig tables r f row) → AreDue model tables family rows
-AreDue-results model tables r f family rows rule named are row has =
-    let result = are row has in
-    let same : result.family ≡ family = let e = result.numbered in cc in
-    (rw same at result.valid, inr (rule.0, r, rule.1, rw same at result.yielded))
-
 -- rows that occur in an init
-pub AreDue-initial : (model : Model) (tables : List Table) (m : List (Option Agent)) (family : Family) (rows : List Row) → Has model.inits m → ((row : Row) → Has rows row ↔ (IsRow model.sig family row × Occurs model.sig family row m)) → AreDue model tables family rows
-AreDue-initial model tables m family rows init are row has =
+pub AreDue-initial : (model : Model) (m : List (Option Agent)) (family : Family) (rows : List Row) → Has model.inits m → ((row : Row) → Has rows row ↔ (IsRow model.sig family row × Occurs model.sig family row m)) → AreDue model family rows
+AreDue-initial model m family rows init are row has =
     let there = (are row).0 has in
-    (there.0, inl (init.0, m, init.1, there.1))
+    (there.0, (init.0, m, init.1, there.1))
 
 -- what is due has the shape of its family
 pub HasShape-row : (sig : List TypeEntry) (family : Family) (row : Row) → IsRow sig family row → HasShape family row
@@ -119,16 +80,15 @@ HasShape-row sig family row ok = absurd ok
 -- ---- one after another
 
 module _ (model : Model) where
-  pub IsStep-none : (g : Growing) → IsUnderWay model g → IsStep model g g
-  IsStep-none g under_way = record { under_way = under_way; families = refl; most = refl; kept = λ k row has. has }
+  pub IsStep-none : (tables : List Table) → IsUnderWay model tables → IsStep model tables tables
+  IsStep-none tables under_way = record { under_way = under_way; families = refl; kept = λ k row has. has }
 
-  pub IsStep-then : (a b c : Growing) → IsStep model a b → IsStep model b c → IsStep model a c
+  pub IsStep-then : (a b c : List Table) → IsStep model a b → IsStep model b c → IsStep model a c
   IsStep-then a b c first second = record {
     under_way = second.under_way;
     families = second.families ∙ first.families;
-    most = second.most ∙ first.most;
     kept = λ k row has. second.kept k row (first.kept k row has);
   }
 
-  pub PassesLimit-then : (a b : Growing) → IsStep model a b → PassesLimit b.most model (families_of b.tables) → PassesLimit a.most model (families_of a.tables)
-  PassesLimit-then a b step passes others ok same closed = rw (← step.most) (passes others ok (same ∙ sym step.families) closed)
+  pub PassesLimit-then : (a b : List Table) → IsStep model a b → PassesLimit 200000 model (families_of b) → PassesLimit 200000 model (families_of a)
+  PassesLimit-then a b step passes others ok same closed = passes others ok (same ∙ sym step.families) closed

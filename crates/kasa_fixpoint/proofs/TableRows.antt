@@ -9,7 +9,6 @@ use Rattle.kasa_families.specs.declared.row.Row.{Row}
 use Rattle.kasa_families.specs.Row.{IsRow}
 use Rattle.kasa_families.specs.Table.{Table, AreTables, families_of, rows_of, Holds, IsWithin}
 use Rattle.kasa_families.proofs.TableLemmas.{IsFamily-of_tables, family_at, table_of, rows_of-some, rows_of-none}
-use Rattle.kasa_fixpoint.specs.declared.growing.Growing.{Growing}
 use Rattle.kasa_fixpoint.specs.Growing.{HaveRowsOf, TakesIn}
 
 pub numbered : (tables : List Table) (f : ℕ) → f < length tables → (family : Family) × (slice_get (families_of tables) f ≡ Some family)
@@ -47,23 +46,23 @@ IsWithin-rows first second same have family row holds =
     Holds-at second n.0 family row (rw same n.1) (have n.0 row n.2)
 
 -- tables that take in valid rows are valid still
-module _ (sig : List TypeEntry) (old new : Growing) (f : ℕ) (family : Family) (rows : List Row) (ok : AreTables sig old.tables) (named : slice_get (families_of old.tables) f ≡ Some family) (valid : (row : Row) → Has rows row → IsRow sig family row) (takes : TakesIn f rows old new) where
-  row_valid : (k : ℕ) (other : Family) (row : Row) → slice_get (families_of old.tables) k ≡ Some other → Has (rows_of new.tables k) row → IsRow sig other row
+module _ (sig : List TypeEntry) (old new : List Table) (f : ℕ) (family : Family) (rows : List Row) (ok : AreTables sig old) (named : slice_get (families_of old) f ≡ Some family) (valid : (row : Row) → Has rows row → IsRow sig family row) (takes : TakesIn f rows old new) where
+  row_valid : (k : ℕ) (other : Family) (row : Row) → slice_get (families_of old) k ≡ Some other → Has (rows_of new k) row → IsRow sig other row
   row_valid k other row at has = elim (takes.only k row has) [
     | inl before ↦
-        let t = table_of old.tables k other at in
-        let there : Has t.0.rows row = rw (rows_of-some old.tables k t.0 (sym t.1)) at before in
+        let t = table_of old k other at in
+        let there : Has t.0.rows row = rw (rows_of-some old k t.0 (sym t.1)) at before in
         rw t.2 at (ok.rows t.0 (k, t.1) row there)
     | inr here ↦
-        let also : slice_get (families_of old.tables) f ≡ Some other = rw here.0 at at in
+        let also : slice_get (families_of old) f ≡ Some other = rw here.0 at at in
         let same : family ≡ other = cc in
         rw same at (valid row here.1)
   ]
 
-  pub AreTables-takes : AreTables sig new.tables
+  pub AreTables-takes : AreTables sig new
   AreTables-takes = record {
     different = rw takes.families ok.different;
-    families = λ t has. IsFamily-of_tables sig old.tables ok t.family (has.0, rw takes.families at (family_at new.tables has.0 t (sym has.1)));
-    rows_differ = λ t has. rw (rows_of-some new.tables has.0 t (sym has.1)) at (takes.has_room.different has.0);
-    rows = λ t has row among. row_valid has.0 t.family row (rw takes.families at (family_at new.tables has.0 t (sym has.1))) (rw (rows_of-some new.tables has.0 t (sym has.1)) among);
+    families = λ t has. IsFamily-of_tables sig old ok t.family (has.0, rw takes.families at (family_at new has.0 t (sym has.1)));
+    rows_differ = λ t has. rw (rows_of-some new has.0 t (sym has.1)) at (takes.has_room.different has.0);
+    rows = λ t has row among. row_valid has.0 t.family row (rw takes.families at (family_at new has.0 t (sym has.1))) (rw (rows_of-some new has.0 t (sym has.1)) among);
   }

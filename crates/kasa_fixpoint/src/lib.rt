@@ -1,11 +1,14 @@
 //! The least closed tables of a model over families of patterns.
 #![tactic(auto)]
 
-mod counted;
-mod fault;
-mod growing;
+mod inits;
+mod inserting;
 pub mod laws;
-mod rounds;
+mod pairs;
+mod readers;
+mod solving;
+mod system;
 
-pub use fault::SolveFault;
-pub use rounds::solve;
+pub use kasa_worklist::SolveFault;
+pub use pairs::Pair;
+pub use solving::solve;

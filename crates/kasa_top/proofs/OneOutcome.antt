@@ -162,14 +162,14 @@ one_lemmas_text sig tables others a b different e there back p q =
     let o = p.are_ordered in
     let r = q.are_ordered in
     let same : p.ordered ≡ q.ordered =
-      ordered_tables p.ordered q.ordered
-      (subst AllDifferent (sym o.families) different)
-      (o.families ∙ e ∙ sym r.families)
-      o.ascend r.ascend
-      (λ family row. (
-        λ h. (r.rows family row).1 (there family row ((o.rows family row).0 h)),
-        λ h. (o.rows family row).1 (back family row ((r.rows family row).0 h)),
-      )) in
+    ordered_tables p.ordered q.ordered
+    (subst AllDifferent (sym o.families) different)
+    (o.families ∙ e ∙ sym r.families)
+    o.ascend r.ascend
+    (λ family row. (
+      λ h. (r.rows family row).1 (there family row ((o.rows family row).0 h)),
+      λ h. (o.rows family row).1 (back family row ((r.rows family row).0 h)),
+    )) in
     p.printed ∙ ap (lemmas_text sig) same ∙ sym q.printed
 
 -- ---- one model, one report
@@ -217,7 +217,7 @@ no_report text a (model, families, plans, passes) r =
     let e = same_plans text r.model model (families_of r.tables) families r.plans plans in
     let few = r.few_rows in
     let more : 200000 < row_count r.tables =
-      passes r.tables (subst (λ (m : Model). AreTables m.sig r.tables) e.0 r.valid) e.1 (subst (λ m. IsLeast m r.tables) e.0 r.least).closed in
+    passes r.tables (subst (λ (m : Model). AreTables m.sig r.tables) e.0 r.valid) e.1 (subst (λ m. IsLeast m r.tables) e.0 r.least).closed in
     omega arith
 
 -- few views are planned where not too many are

@@ -14,8 +14,8 @@ use Rattle.kasa_families.specs.Table.{Table, AreTables, families_of}
 use Rattle.kasa_pre.specs.Allowed.{IsDead}
 use Rattle.kasa_pre.specs.Closed.{IsLeast, LemmaHolds}
 use Rattle.kasa_fixpoint.specs.Limit.{PassesLimit}
-use Rattle.kasa_fixpoint.specs.declared.fault.SolveFault.{SolveFault}
-use Rattle.kasa_fixpoint.specs.declared.fault.SolveFault.TheVariants as solve
+use Rattle.kasa_worklist.specs.declared.fault.SolveFault.{SolveFault}
+use Rattle.kasa_worklist.specs.declared.fault.SolveFault.TheVariants as solve
 use Rattle.kasa_top.specs.declared.plan.PlanFault.{PlanFault}
 use Rattle.kasa_top.specs.declared.plan.PlanFault.TheVariants as plan
 use Rattle.kasa_top.specs.declared.status.Status.{Status}

@@ -17,10 +17,12 @@ use crate::plan::plan;
 use kasa_compile::{ModelFault, read_model};
 use kasa_edge::{Failed, FetchFault, Shelf, Sink};
 use kasa_fixpoint::solve;
-use kasa_num::NoMemory;
+use kasa_num::{NoMemory, Steps};
 use kasa_rules::Model;
 use kasa_tables::Tables;
 use std::alloc::Global;
+use std::marker::Brand;
+use std::sync::ledger::{Blank, Ledger};
 
 /// The most bytes of a model's text: 4 MiB.
 const MOST: usize = 4_194_304;
@@ -67,13 +69,17 @@ fn fetch_model<S: Shelf>(shelf: &mut S, name: &str) -> Result<Vec<u8>, Status>
     }
 }
 
-// The least tables of a model's planned views.
-fn solve_plan(alloc: Global, model: &Model) -> Result<Tables, Status>
+// The least tables of a model's planned views, by steps over a ledger.
+fn solve_plan<L: Ledger>(blank: Blank, alloc: Global, model: &Model) -> Result<Tables, Status>
+    requires name { blank.name ≡ L.name }
+    requires parts { blank.parts ≡ L.parts }
+    requires some { L.parts ≡ 1 }
     ensures solved { IfOk result (λ tables. IsSolved model.now tables) }
     ensures unsolved { IfErr result (λ status. IsUnsolved model.now status) }
 {
     let families = plan(alloc, model)?;
-    Ok(solve(alloc, model, families)?)
+    let mut steps = Steps::<L>::new(blank);
+    Ok(solve(alloc, model, families, &mut steps)?)
 }
 
 // The report of a model's text.
@@ -85,7 +91,7 @@ fn report(alloc: Global, text: &[u8]) -> Result<Vec<u8>, Status>
         return Err(Status::TooLong);
     }
     let model = read_model(alloc, text)?;
-    let tables = solve_plan(alloc, &model)?;
+    let tables = solve_plan::<Brand>(Blank::new(1), alloc, &model)?;
     Ok(lemmas_section(alloc, &model.sig, &tables)?)
 }
 
