@@ -1,13 +1,10 @@
-// Meets of the left patterns of rules that are read from a text.
+//! Meets of the left patterns of rules that are read from a text.
 ghost use Rattle.std.specs.Prelude.{◌<◌, IsTrue, length};
 ghost use Rattle.kasa_graph.specs.Pattern.{HasNodeSite};
 
-use kasa_compile::read_model;
+use crate::worked::model;
 use kasa_graph::{LinkTest, Pattern, Test, meet};
-use kasa_num::{AgentType, Name, NodeNo, SiteNo};
-use kasa_rules::Model;
-use std::alloc::Global;
-use std::process::Abort;
+use kasa_num::{AgentType, NodeNo, SiteNo};
 use std::test::Fail;
 
 const HUB: NodeNo = NodeNo(0);
@@ -20,16 +17,6 @@ const YARD: &[u8] = b"%init: 1 Hub(port[1]), Cart(nose[1])
 'shed' Hub(port[nose.Cart/.])
 ";
 
-fn yard(alloc: Global, rt: &impl Abort) -> Result<Model, Fail> {
-    let text = YARD;
-    assert!(rt; text.len() <= 4_194_304);
-    let Ok(model) = read_model(alloc, text) else {
-        return Err(Fail::from("refused"));
-    };
-    assert!(rt; model.rules.as_slice().len() == 2);
-    Ok(model)
-}
-
 // The hub of a pattern has its port.
 fn has_port(g: &Pattern) -> bool
     ensures site { IsTrue result → HasNodeSite g.now 0 0 }
@@ -41,7 +28,7 @@ fn has_port(g: &Pattern) -> bool
 #[test]
 fn a_bound_port_has_a_partner_and_is_not_free(rt: HostRuntime) -> Result<(), Fail> {
     let alloc = rt.alloc();
-    let model = yard(alloc, &rt)?;
+    let model = model(&rt, alloc, YARD)?;
     let rules = model.rules.as_slice();
     assert!(&rt; rules.len() == 2);
     let (bound, wanted) = (rules[0].left(), rules[1].left());
@@ -57,11 +44,4 @@ fn a_bound_port_has_a_partner_and_is_not_free(rt: HostRuntime) -> Result<(), Fai
             Ok(())
         }
     }
-}
-
-#[test]
-fn a_name_holds_its_bytes(rt: HostRuntime) -> Result<(), Fail> {
-    let name = Name::new(rt.alloc(), b"dock")?;
-    assert_eq!(&rt; name.as_bytes(), b"dock".as_slice());
-    Ok(())
 }

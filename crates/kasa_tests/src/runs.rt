@@ -1,4 +1,4 @@
-// Whole runs over the hub, whose shelf or sink fails at a numbered call.
+//! Whole runs over the hub, whose shelf or sink fails at a numbered call.
 use kasa_edge::{ShelfMem, SinkMem};
 use kasa_top::run;
 use std::alloc::Global;

@@ -2,7 +2,7 @@ use Rattle.std.proofs.Common.{◌≡◌, sym, length, refl}
 use Rattle.std.specs.Prelude.{Some, slice_get}
 use Rattle.std.proofs.lemmas.Bool.{ltb-true}
 use Rattle.std.proofs.lemmas.Option.{slice_get_read}
-use Rattle.kasa_row_tests.proofs.views.rule_at.Goals as goal
+use Rattle.kasa_tests.proofs.worked.rule_at.Goals as goal
 
 pub returns-in-Some : goal.returns-in-Some
 returns-in-Some c =

@@ -1,18 +1,6 @@
-// Texts that say the same, and texts that differ in what they say.
-use kasa_compile::read_model;
-use kasa_rules::Model;
-use std::alloc::Global;
-use std::process::Abort;
+//! Texts that say the same, and texts that differ in what they say.
+use crate::worked::model;
 use std::test::Fail;
-
-// The model of a text that has one.
-fn model_of(alloc: Global, rt: &impl Abort, text: &[u8]) -> Result<Model, Fail> {
-    assert!(rt; text.len() <= 4_194_304);
-    match read_model(alloc, text) {
-        Ok(model) => Ok(model),
-        Err(_) => Err(Fail::from("no model")),
-    }
-}
 
 // Rules without an arrow, commas and names that are left out, and a rule that is two.
 const SHORT: &[u8] = b"%agent: A(x,w,z{u p})
@@ -115,8 +103,8 @@ A()+
 
 #[test]
 fn edits_and_arrows_say_the_same_rules(rt: HostRuntime) -> Result<(), Fail> {
-    let short = model_of(rt.alloc(), &rt, SHORT)?;
-    let long = model_of(rt.alloc(), &rt, LONG)?;
+    let short = model(&rt, rt.alloc(), SHORT)?;
+    let long = model(&rt, rt.alloc(), LONG)?;
     let (rules, others) = (short.rules.as_slice(), long.rules.as_slice());
     assert!(rt; rules.len() == 45 && others.len() == 45);
     for (number, rule) in rules.iter().enumerate() {
@@ -168,8 +156,8 @@ A()
 
 #[test]
 fn what_differs_in_one_word_says_something_else(rt: HostRuntime) -> Result<(), Fail> {
-    let one = model_of(rt.alloc(), &rt, ONE)?;
-    let other = model_of(rt.alloc(), &rt, OTHER)?;
+    let one = model(&rt, rt.alloc(), ONE)?;
+    let other = model(&rt, rt.alloc(), OTHER)?;
     let (rules, others) = (one.rules.as_slice(), other.rules.as_slice());
     assert!(rt; rules.len() == 12 && others.len() == 12);
     for (number, rule) in rules.iter().enumerate() {

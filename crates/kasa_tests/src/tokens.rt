@@ -1,4 +1,4 @@
-// The tokens of texts.
+//! The tokens of texts.
 use kasa_lexer::lex;
 use std::alloc::Global;
 use std::test::Fail;

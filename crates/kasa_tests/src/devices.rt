@@ -1,4 +1,4 @@
-// Devices in memory that fail at a numbered call.
+//! Devices in memory that fail at a numbered call.
 use kasa_edge::{Failed, FetchFault, Shelf, ShelfMem, Sink, SinkMem};
 use std::test::Fail;
 

@@ -1,19 +1,18 @@
-// Rows of the view of a beam, from least tables and from tables without rows. The helpers test what the calls require.
-ghost use Rattle.std.specs.Prelude.{◌≡◌, ◌≤◌, length, Some, slice_get, IsTrue, IfOk, IfSome};
+//! Rows of the view of a beam that rules yield, from least tables and from tables without rows. The helpers test what the calls require.
+ghost use Rattle.std.specs.Prelude.{◌≡◌, ◌≤◌, length, Some, slice_get, IsTrue, IfOk};
 ghost use Rattle.kasa_graph.specs.Lists.{Has, AllDifferent};
 ghost use Rattle.kasa_families.specs.declared.family.Family.{Family};
 ghost use Rattle.kasa_families.specs.Family.{IsFamily};
 ghost use Rattle.kasa_families.specs.Table.{AreTables, families_of};
-ghost use Rattle.kasa_rules.specs.Rule.{IsRuleOver};
+ghost use Rattle.kasa_columns.specs.Forward.{HasColumns};
 ghost use Rattle.kasa_views.specs.View.{IsView};
 
-use crate::counted::{new_results, results};
-use kasa_compile::read_model;
+use crate::counted::{least_tables, new_results, results};
+use crate::worked::{model, rule_at};
 use kasa_families::{Family, Local, LocalLink, Locals, Row, Rows, Sites, is_family};
-use kasa_fixpoint::solve;
 use kasa_graph::Signature;
 use kasa_num::{AgentType, FamilyNo, SiteNo};
-use kasa_rules::{Model, Rule};
+use kasa_rules::Model;
 use kasa_tables::Tables;
 use kasa_views::missing;
 use std::alloc::Global;
@@ -40,29 +39,14 @@ const DROP: usize = 0;
 
 const MAKE: usize = 1;
 
-// ---- the model and its tables
-
-fn model_of(rt: &impl Abort, alloc: Global) -> Result<Model, Fail> {
-    assert!(rt; MODEL.len() <= 4_194_304);
-    Ok(read_model(alloc, MODEL)?)
-}
-
-// The rule of a number, which is valid over the model's signature.
-fn rule_at(model: &Model, number: usize) -> Option<&Rule>
-    ensures { IfSome result (λ rule. IsRuleOver model.now.sig rule.now) }
-{
-    match model.rules.as_slice().get(number) {
-        None => None,
-        Some(rule) => Some(rule),
-    }
-}
+// ---- its tables
 
 // The view of both sites of a beam.
 fn beams(rt: &impl Abort, alloc: Global, sig: &Signature) -> Result<Vec<Family>, Fail>
     ensures valid { IfOk result (λ families. (family : Family) → Has families.items family → IsFamily sig.now family) }
     ensures different { IfOk result (λ families. AllDifferent families.items) }
     ensures few { IfOk result (λ families. length families.items ≤ 8000) }
-    ensures views { IfOk result (λ families. (family : Family) → Has families.items family → IsView family) }
+    ensures columns { IfOk result (λ families. (family : Family) → Has families.items family → HasColumns family) }
 {
     let sites = Vec::from_slice(alloc, &[SiteNo(0), SiteNo(1)])?;
     let beams = Family::View {
@@ -78,7 +62,7 @@ fn beams(rt: &impl Abort, alloc: Global, sig: &Signature) -> Result<Vec<Family>,
 fn least(rt: &impl Abort, alloc: Global, model: &Model) -> Result<Tables, Fail>
     ensures { IfOk result (λ tables. AreTables model.now.sig tables) }
 {
-    Ok(solve(alloc, model, beams(rt, alloc, &model.sig)?)?)
+    Ok(least_tables(alloc, model, beams(rt, alloc, &model.sig)?)?)
 }
 
 fn empty(rt: &impl Abort, alloc: Global, model: &Model) -> Result<Tables, Fail>
@@ -161,50 +145,73 @@ fn row(alloc: Global, l: LocalLink) -> Row {
     Row::Locals(Locals::new(alloc, &[Local { state, link: l }, free]))
 }
 
-// The two rows, in order.
-fn expect(rt: &impl Abort, rows: &[Row], first: &Row, second: &Row) {
-    assert!(rt; rows.len() == 2 && rows.contains(first) && rows.contains(second));
-}
+// ---- what is yielded
 
-#[test]
-fn results_end_one_past_the_most(rt: HostRuntime) -> Result<(), Fail> {
-    let alloc = rt.alloc();
-    let model = model_of(&rt, alloc)?;
-    let tables = least(&rt, alloc, &model)?;
+fn results_end_one_past_the_most(
+    rt: &impl Abort,
+    alloc: Global,
+    model: &Model,
+    tables: &Tables,
+) -> Result<(), Fail>
+    requires { AreTables model.now.sig tables.now }
+{
     for (most, want) in [(0, 1), (1, 2), (2, 3), (3, 4), (4, 4), (5, 4)] {
-        let rows = yielded(&rt, alloc, &model, &tables, DROP, most)?;
+        let rows = yielded(rt, alloc, model, tables, DROP, most)?;
         assert_eq!(rt; rows.len(), want, "at {most}");
     }
     Ok(())
 }
 
 // The rule leaves a beam without carts, so the least tables have its row.
-#[test]
-fn rows_that_tables_have_are_not_new(rt: HostRuntime) -> Result<(), Fail> {
-    let alloc = rt.alloc();
-    let model = model_of(&rt, alloc)?;
-    let tables = least(&rt, alloc, &model)?;
+fn nothing_is_new(
+    rt: &impl Abort,
+    alloc: Global,
+    model: &Model,
+    tables: &Tables,
+) -> Result<(), Fail>
+    requires { AreTables model.now.sig tables.now }
+{
     assert!(rt; tables.has(BEAMS, &row(alloc, LocalLink::Free)));
-    let new = new_ones(&rt, alloc, &model, &tables, DROP)?;
-    let first = first_missing(&rt, alloc, &model, &tables, DROP)?;
-    assert!(rt; new.is_empty() && first.is_none());
+    assert!(rt; new_ones(rt, alloc, model, tables, DROP)?.is_empty());
+    assert!(rt; first_missing(rt, alloc, model, tables, DROP)?.is_none());
+    Ok(())
+}
+
+#[test]
+fn rows_are_yielded_from_least_tables_and_none_is_new(rt: HostRuntime) -> Result<(), Fail> {
+    let alloc = rt.alloc();
+    let model = model(&rt, alloc, MODEL)?;
+    let tables = least(&rt, alloc, &model)?;
+    results_end_one_past_the_most(&rt, alloc, &model, &tables)?;
+    nothing_is_new(&rt, alloc, &model, &tables)
+}
+
+// A beam without carts, and one that has a cart at its first site.
+fn are_created(rt: &impl Abort, alloc: Global, rows: &[Row]) {
+    assert!(rt; rows.len() == 2);
+    assert!(rt; rows.contains(&row(alloc, LocalLink::Free)));
+    assert!(rt; rows.contains(&row(alloc, LocalLink::Partner(CART, HOOK))));
+}
+
+fn created_beams_are_new(
+    rt: &impl Abort,
+    alloc: Global,
+    model: &Model,
+    tables: &Tables,
+) -> Result<(), Fail>
+    requires { AreTables model.now.sig tables.now }
+{
+    let new = new_ones(rt, alloc, model, tables, MAKE)?;
+    are_created(rt, alloc, &new);
+    let first = first_missing(rt, alloc, model, tables, MAKE)?;
+    assert!(rt; first == Some(row(alloc, LocalLink::Free)));
     Ok(())
 }
 
 #[test]
 fn rows_of_created_beams_are_new(rt: HostRuntime) -> Result<(), Fail> {
     let alloc = rt.alloc();
-    let model = model_of(&rt, alloc)?;
+    let model = model(&rt, alloc, MODEL)?;
     let tables = empty(&rt, alloc, &model)?;
-    let new = new_ones(&rt, alloc, &model, &tables, MAKE)?;
-    let bare = row(alloc, LocalLink::Free);
-    expect(
-        &rt,
-        &new,
-        &bare,
-        &row(alloc, LocalLink::Partner(CART, HOOK)),
-    );
-    let first = first_missing(&rt, alloc, &model, &tables, MAKE)?;
-    assert!(rt; first == Some(bare));
-    Ok(())
+    created_beams_are_new(&rt, alloc, &model, &tables)
 }
