@@ -1,4 +1,4 @@
-"""Fires the rules of worked models at random and looks whether each row that occurs is printed.
+"""Fires the rules of worked models at random and looks whether each state, bond and row that occurs is printed.
 
     fire.py KASA MODEL FIRINGS
 
@@ -118,6 +118,18 @@ def show(agent, sites):
     return f"  {agent.kind}({','.join(parts)})"
 
 
+def contacts(report):
+    """The printed contact map: a type, a site, and a state or a partner there."""
+    section = report.split("lemmas\n")[0]
+    lines = re.findall(r"^ (\w+)\.(\w+)(?:\{([^}]*)\})?(?:\[([^\]]*)\])?$", section, re.M)
+    return {(kind, site, it) for kind, site, states, partners in lines for it in states.split() + partners.split()}
+
+
+def shown_contacts(agent):
+    states = {(agent.kind, site, state) for site, state in agent.states.items() if state}
+    return states | {(agent.kind, site, f"{there}.{other.kind}") for site, (other, there) in agent.links.items()}
+
+
 def views(report):
     """The printed views: a type, its sites and its rows."""
     blocks = re.findall(r"^ (\w+)\(\)\n((?:  .*\n)+)", report, re.M)
@@ -127,7 +139,8 @@ def views(report):
 def main():
     kasa, name, firings = sys.argv[1], sys.argv[2], int(sys.argv[3])
     report = subprocess.run([kasa, "analyse", name + ".ka"], stdout=subprocess.PIPE).stdout.decode()
-    printed, choose, fired, seen = views(report), random.Random(1), set(), set()
+    printed, known, choose = views(report), contacts(report), random.Random(1)
+    fired, seen, met = set(), set(), set()
     agents, rules = MODELS[name]
     mixture = [Agent(*it) for it in agents]
     bonds = BONDS.get(name, [])
@@ -143,6 +156,10 @@ def main():
         if places:
             fired.add(number)
             fire(mixture, choose.choice(places), steps)
+        met |= {it for agent in mixture for it in shown_contacts(agent)}
+        if not met <= known:
+            print("not in the contact map:", sorted(met - known))
+            return
         for kind, sites, rows in printed:
             shown = {show(agent, sites) for agent in mixture if agent.kind == kind}
             seen |= shown
@@ -150,7 +167,8 @@ def main():
                 print("not printed:", sorted(shown - rows))
                 return
     rows = sum(len(rows) for _, _, rows in printed)
-    print(f"{name}: rules {' '.join(map(str, sorted(fired)))} fired, {len(seen)} of {rows} rows were seen")
+    fired = " ".join(map(str, sorted(fired)))
+    print(f"{name}: rules {fired} fired, {len(met)} of {len(known)} states and bonds and {len(seen)} of {rows} rows were seen")
 
 
 if __name__ == "__main__":

@@ -10,7 +10,7 @@ for length in range(len(text) + 1):
     part = text[:length]
     open("part.ka", "wb").write(part)
     done = subprocess.run([sys.argv[1], "analyse", "part.ka"], stdout=subprocess.PIPE)
-    if done.returncode == 0 and done.stdout.startswith(b"lemmas\n"):
+    if done.returncode == 0 and done.stdout.startswith(b"contact map\n"):
         continue
     place = re.fullmatch(rb"model (\d+):(\d+): [A-Za-z]+\n", done.stdout)
     lines = part.split(b"\n")

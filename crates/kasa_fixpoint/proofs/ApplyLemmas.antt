@@ -10,7 +10,6 @@ use Rattle.kasa_families.specs.Row.{IsRow}
 use Rattle.kasa_families.specs.Table.{Table, AreTables, families_of, rows_of, HasShape}
 use Rattle.kasa_families.proofs.TableLemmas.{rows_of-some, rows_of-none}
 use Rattle.kasa_rules.specs.Rule.{RuleParts, IsRuleOver}
-use Rattle.kasa_columns.specs.Forward.{HasColumns}
 use Rattle.kasa_columns.specs.Results.{IsResult, AreNewResults}
 use Rattle.kasa_worklist.specs.declared.fault.SolveFault.{SolveFault}
 use Rattle.kasa_worklist.specs.System.{AreWithinLimit, HaveAllResults, IsLimitPassed, RowsAreAmong}
@@ -50,9 +49,6 @@ module _ (s : SystemParts) (lists : List (List ℕ)) (planned : IsPlanned s list
   module _ (tables : List Table) (room : AreWithinLimit (system_of s) tables) where
     pub family_of_tables : slice_get (families_of tables) pair.family ≡ Some here.family
     family_of_tables = rw room.valid.1 here.named
-
-    pub has_columns : HasColumns here.family
-    has_columns = planned.columns here.family (pair.family, here.named)
 
     pub has_room : HasRoomForRows tables
     has_room = record {

@@ -25,7 +25,6 @@ use Rattle.kasa_pre.proofs.StepLemmas.{never-dead, LemmaHolds-cover}
 use Rattle.kasa_pre.proofs.SoundLemmas.{Cover-reached}
 use Rattle.kasa_tables.specs.Insert.{empty_tables, row_count}
 use Rattle.kasa_tables.proofs.PlainLemmas.{families_of-empty, row_count-empty, AreTables-empty}
-use Rattle.kasa_columns.specs.Forward.{HasColumns}
 use Rattle.kasa_worklist.specs.System.{AreWithinLimit, AreLeastAbove, HaveAllResults, IsLimitPassed, RowsAreAmong}
 use Rattle.kasa_worklist.specs.Counts.{read_count}
 use Rattle.kasa_fixpoint.specs.declared.pairs.Pair.{Pair}
@@ -49,14 +48,13 @@ no_row : (families : List Family) (k : ℕ) (row : Row) → ¬ Has (rows_of (emp
 no_row families k row has = let none : slice_get [] has.0 ≡ Some row = rw (rows_of-empty families k) at has.1 in cc
 
 -- tables without rows, where nothing is inserted yet
-pub IsUnderWay-empty : (model : Model) (families : List Family) → AllDifferent families → ((family : Family) → Has families family → IsFamily model.sig family) → ((family : Family) → Has families family → HasColumns family) → IsUnderWay model (empty_tables families)
-IsUnderWay-empty model families different valid columns = record {
+pub IsUnderWay-empty : (model : Model) (families : List Family) → AllDifferent families → ((family : Family) → Has families family → IsFamily model.sig family) → IsUnderWay model (empty_tables families)
+IsUnderWay-empty model families different valid = record {
   has_room = record {
     different = λ k. rw (rows_of-empty families k) AllDifferent-[];
     few = rw (row_count-empty families) (omega arith);
   };
   are_tables = AreTables-empty model.sig families different valid;
-  columns = λ family has. columns family (rw (families_of-empty families) at has);
   forced = λ others ok same closed family row holds. let n = number_of (empty_tables families) family row holds in absurd (no_row families n.0 row n.2);
 }
 

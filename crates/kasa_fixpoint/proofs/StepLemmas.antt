@@ -49,7 +49,6 @@ module _ (model : Model) (old : List Table) (under_way : IsUnderWay model old) (
     under_way = record {
       has_room = takes.has_room;
       are_tables = AreTables-takes model.sig old new f family rows under_way.are_tables named (λ row has. (due row has).0) takes;
-      columns = λ other has. under_way.columns other (rw takes.families at has);
       forced = λ others ok same closed. still_forced new takes others ok (same ∙ takes.families) closed;
     };
     families = takes.families;

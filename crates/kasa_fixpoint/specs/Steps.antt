@@ -10,18 +10,16 @@ use Rattle.kasa_families.specs.Pattern.{Occurs}
 use Rattle.kasa_families.specs.Table.{Table, AreTables, families_of, Holds, IsWithin}
 use Rattle.kasa_rules.specs.declared.model.Model.{Model}
 use Rattle.kasa_pre.specs.Closed.{IsInitial, IsClosed}
-use Rattle.kasa_columns.specs.Forward.{HasColumns}
 use Rattle.kasa_fixpoint.specs.Growing.{HasRoomForRows, HaveRowsOf}
 
 -- valid rows of a family, each initial
 abbrev pub AreDue : Model → Family → List Row → Type 0
 AreDue model family rows = (row : Row) → Has rows row → IsRow model.sig family row × IsInitial model family row
 
--- tables of families with columns, with no row that some closed tables of these families don't hold
+-- tables with no row that some closed tables of these families don't hold
 pub record IsUnderWay (model : Model) (tables : List Table) : Type 0 where
   pub has_room : HasRoomForRows tables
   pub are_tables : AreTables model.sig tables
-  pub columns : (family : Family) → Has (families_of tables) family → HasColumns family
   pub forced : (others : List Table) → AreTables model.sig others → families_of others ≡ families_of tables → IsClosed model others → IsWithin tables others
 
 -- from such tables to more rows of the same families

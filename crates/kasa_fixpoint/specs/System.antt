@@ -12,7 +12,6 @@ use Rattle.kasa_rules.specs.declared.model.Model.{Model}
 use Rattle.kasa_rules.specs.Reached.{IsModel}
 use Rattle.kasa_rules.specs.Rule.{RuleParts}
 use Rattle.kasa_pre.specs.Yields.{Yields}
-use Rattle.kasa_columns.specs.Forward.{HasColumns}
 use Rattle.kasa_worklist.specs.System.{Relations}
 use Rattle.kasa_fixpoint.specs.declared.pairs.Pair.{Pair}
 use Rattle.kasa_fixpoint.specs.Pairs.{IsPairOf, AreActingPairs}
@@ -71,11 +70,10 @@ system_of s = record {
   yields = PairYields s;
 }
 
--- valid families with columns, the pairs that act, and those that read families of each type
+-- valid families, the pairs that act, and those that read families of each type
 pub record IsPlanned (s : SystemParts) (lists : List (List ℕ)) : Type 0 where
   pub model : IsModel s.model
   pub valid : (family : Family) → Has s.families family → IsFamily s.model.sig family
-  pub columns : (family : Family) → Has s.families family → HasColumns family
   pub acting : AreActingPairs s.model s.families s.pairs
   pub few : length s.pairs < 4294967296
   pub readers : AreReadersBelow s.model s.families s.pairs (length s.pairs) lists

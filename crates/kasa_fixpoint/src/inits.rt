@@ -10,7 +10,7 @@ ghost use Rattle.kasa_fixpoint.specs.Limit.{PassesLimit};
 ghost use Rattle.kasa_fixpoint.specs.Steps.{IsUnderWay, IsStep, HoldsOccurring};
 
 use crate::inserting::insert_all;
-use kasa_columns::initial;
+use crate::kinds::initial;
 use kasa_families::Rows;
 use kasa_graph::Mixture;
 use kasa_num::FamilyNo;

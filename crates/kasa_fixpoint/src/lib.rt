@@ -3,6 +3,7 @@
 
 mod inits;
 mod inserting;
+mod kinds;
 pub mod laws;
 mod pairs;
 mod readers;

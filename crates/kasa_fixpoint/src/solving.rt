@@ -10,7 +10,6 @@ ghost use Rattle.kasa_rules.specs.Reached.{Reached};
 ghost use Rattle.kasa_graph.specs.Embedding.{IsEmbedding};
 ghost use Rattle.kasa_pre.specs.Allowed.{IsDead};
 ghost use Rattle.kasa_pre.specs.Closed.{IsLeast, LemmaHolds};
-ghost use Rattle.kasa_columns.specs.Forward.{HasColumns};
 ghost use Rattle.kasa_worklist.specs.declared.fault.SolveFault.TheVariants.{TooManyRows as too_many_rows};
 ghost use Rattle.kasa_fixpoint.specs.Limit.{PassesLimit};
 ghost use Rattle.kasa_fixpoint.specs.Bounds.{AreBoundedSteps};
@@ -25,7 +24,7 @@ use kasa_worklist::{SolveFault, close};
 use std::alloc::Global;
 use std::sync::ledger::Ledger;
 
-/// The least closed tables of a model over some families with columns: each row that occurs in an init or that a rule
+/// The least closed tables of a model over some families: each row that occurs in an init or that a rule
 /// yields from the tables is there, and no other one. `TooManyRows` comes exactly where no closed tables over the
 /// families have at most 200,000 rows. What the lemmas of the tables say holds in every mixture that the model reaches,
 /// and no rule that is dead in them ever fires there. Its steps are at least as many as there are pairs of a rule and a
@@ -40,7 +39,6 @@ pub fn solve<L: Ledger>(
     requires valid { (family : Family) → Has families.items family → IsFamily model.now.sig family }
     requires different { AllDifferent families.items }
     requires few { length families.items ≤ 8000 }
-    requires columns { (family : Family) → Has families.items family → HasColumns family }
     ensures families { IfOk result (λ tables. families_of tables ≡ families.items) }
     ensures tables { IfOk result (λ tables. AreTables model.now.sig tables) }
     ensures least { IfOk result (λ tables. IsLeast model.now tables) }

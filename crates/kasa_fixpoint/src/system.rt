@@ -6,24 +6,19 @@ ghost use Rattle.kasa_families.specs.Family.{IsFamily};
 ghost use Rattle.kasa_families.specs.Table.{AreTables, families_of};
 ghost use Rattle.kasa_rules.specs.Rule.{IsRuleOver};
 ghost use Rattle.kasa_rules.specs.Reached.{IsModel};
-ghost use Rattle.kasa_columns.specs.Forward.{HasColumns};
-ghost use Rattle.kasa_columns.specs.Results.{AreNewResults};
 
 use crate::inserting::insert_all;
+use crate::kinds::{MOST_ROWS, new_rows};
 use crate::pairs::{Pair, acting_pairs};
 use crate::readers::{Numbers, readers};
-use kasa_columns as columns;
 use kasa_families::{Family, Row, first_type};
-use kasa_graph::Signature;
 use kasa_num::{FamilyNo, NoMemory, Steps};
-use kasa_rules::{Model, Rule};
+use kasa_rules::Model;
 use kasa_tables::Tables;
 use kasa_worklist::{SolveFault, System};
 use std::alloc::Global;
 use std::marker;
 use std::sync::ledger::Ledger;
-
-const MOST_ROWS: usize = 200_000;
 
 // A model and families, the pairs that act, and of each type those that read families whose root begins with it.
 #[derive(Drop)]
@@ -54,7 +49,6 @@ impl<'a> PairSystem<'a> {
     ) -> Result<PairSystem<'a>, NoMemory>
         requires model { IsModel model.now }
         requires valid { (family : Family) → Has families.items family → IsFamily model.now.sig family }
-        requires columns { (family : Family) → Has families.items family → HasColumns family }
         requires few { length families.items ≤ 8000 }
         ensures model { IfOk result (λ system. system.model ≡ model.now) }
         ensures families { IfOk result (λ system. system.families ≡ families.items) }
@@ -69,24 +63,6 @@ impl<'a> PairSystem<'a> {
             readers,
         })
     }
-}
-
-// The rows that a rule yields of a family and that tables don't have. It adds one step, whatever it answers.
-fn new_rows<L: Ledger>(
-    alloc: Global,
-    sig: &Signature,
-    tables: &Tables,
-    rule: &Rule,
-    f: FamilyNo,
-    steps: &mut Steps<L>,
-) -> Result<Vec<Row>, NoMemory>
-    requires tables { AreTables sig.now tables.now }
-    requires over { IsRuleOver sig.now rule.now }
-    requires columns { (family : Family) × (slice_get (families_of tables.now) f ≡ Some family) × HasColumns family }
-    ensures step { steps.new ≡ steps.old + 1 }
-    ensures results { IfOk result (λ found. AreNewResults sig.now tables.now rule.now f 200000 found.items) }
-{
-    columns::new_results(alloc, sig, tables, rule, f, MOST_ROWS, steps)
 }
 
 impl<'a> System for PairSystem<'a> {

@@ -10,3 +10,7 @@ pub mod TableLemmas
 pub mod SortedRows
 pub mod ReportLemmas
 pub mod SiteLemmas
+pub mod SameTables
+pub mod InOrder
+pub mod OneReport
+pub mod SoundReport

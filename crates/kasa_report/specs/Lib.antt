@@ -5,4 +5,6 @@ pub mod LemmasText
 pub mod DeadText
 pub mod PolymersText
 pub mod Report
+pub mod Same
+pub mod Sound
 pub mod inner

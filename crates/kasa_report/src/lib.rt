@@ -2,6 +2,7 @@
 #![tactic(auto)]
 
 mod dead;
+pub mod laws;
 mod lemmas;
 mod map;
 mod polymers;

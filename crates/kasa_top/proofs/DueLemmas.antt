@@ -2,14 +2,16 @@
 use Rattle.std.proofs.Common.{◌≡◌, ◌≤◌, ℕ, List, length, Option, Result, Ok, Err, IfOk, IfErr, Vec, Global, refl, sym, subst}
 use Rattle.kasa_edge.specs.Shelf.{Held}
 use Rattle.kasa_rules.specs.declared.model.Model.{Model}
+use Rattle.kasa_rules.specs.Reached.{IsModel}
 use Rattle.kasa_compile.specs.Model.{IsModelOf}
 use Rattle.kasa_families.specs.Table.{Table}
 use Rattle.kasa_tables.specs.Insert.{row_count}
+use Rattle.kasa_report.specs.Report.{IsReport}
+use Rattle.kasa_report.proofs.SoundReport.{sound}
 use Rattle.kasa_top.specs.declared.status.Status.{Status}
 use Rattle.kasa_top.specs.declared.status.Status.TheVariants.{Done, BadWords, BadModel, TooLong, TooManyRows, TooManyFamilies, ReadFault, WriteFault, NoMemory}
 use Rattle.kasa_top.specs.Words.{IsAnalyse}
 use Rattle.kasa_top.specs.Fetched.{Fetched}
-use Rattle.kasa_top.specs.LemmasText.{IsLemmasText}
 use Rattle.kasa_top.specs.Outcome.{Ends, Fetches, IsReportOf}
 use Rattle.kasa_top.specs.Sound.{TakesSoundReport}
 use Rattle.kasa_top.specs.Due.{IsRefused, IsSolved, IsSoundReport, IsUnreported, IsWritten}
@@ -17,19 +19,20 @@ use Rattle.kasa_top.proofs.FetchedLemmas.{whole, long}
 
 -- ---- the report
 
-pub sound_report : (text : List ℕ) (model : Model) (tables : List Table) (printed : List ℕ) → length text ≤ 4194304 → IsModelOf text model → IsSolved model tables → row_count tables ≤ 200000 →
-    IsLemmasText model.sig tables printed → IsSoundReport text printed
-sound_report text model tables printed short read solved few_rows is_text = record {
+pub sound_report : (text : List ℕ) (model : Model) (tables : List Table) (printed : List ℕ) → length text ≤ 4194304 → IsModel model → IsModelOf text model → IsSolved model tables → row_count tables ≤ 200000 →
+    IsReport model tables printed → IsSoundReport text printed
+sound_report text model tables printed short valid read solved few_rows is_report = record {
   report = record {
     model = model;
+    valid_model = valid;
     tables = tables;
     plans = record { short = short; read = read; planned = solved.planned; few = solved.few };
     valid = solved.valid;
     least = solved.least;
     few_rows = few_rows;
-    printed = is_text;
+    printed = is_report;
   };
-  sound = record { lemmas = solved.lemmas; dead = solved.dead };
+  sound = record { lemmas = solved.lemmas; dead = solved.dead; printed = sound model tables printed valid solved.valid solved.least.closed is_report };
 }
 
 -- ---- of the text that is held under the name that the words give

@@ -1,6 +1,3 @@
-pub mod SortedRows
-pub mod SectionLemmas
-pub mod OrderedLemmas
 pub mod Written
 pub mod WordLemmas
 pub mod FetchedLemmas

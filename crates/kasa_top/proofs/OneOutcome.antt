@@ -15,6 +15,10 @@ use Rattle.kasa_families.specs.Table.{Table, families_of, AreTables, Holds, IsWi
 use Rattle.kasa_families.proofs.RowOrder.{IsRowBelow-trans, IsRowBelow-strict}
 use Rattle.kasa_tables.specs.Insert.{row_count}
 use Rattle.kasa_rules.specs.declared.model.Model.{Model}
+use Rattle.kasa_rules.specs.Reached.{IsModel}
+use Rattle.kasa_report.specs.Report.{IsReport}
+use Rattle.kasa_report.proofs.InOrder.{AreBelow-numbered, ordered_same}
+use Rattle.kasa_report.proofs.OneReport.{one_report as one_tables_report}
 use Rattle.kasa_pre.specs.Closed.{IsLeast}
 use Rattle.kasa_compile.specs.declared.fault.ModelFault.{ModelFault}
 use Rattle.kasa_compile.specs.Model.{IsModelOf, IsFaultOf}
@@ -24,52 +28,7 @@ use Rattle.kasa_top.specs.declared.status.Status.TheVariants.{Done, BadWords, Ba
 use Rattle.kasa_top.specs.Status.{status_text}
 use Rattle.kasa_top.specs.Words.{IsAnalyse}
 use Rattle.kasa_top.specs.Plan.{PrecedesList, Precedes, IsViewPlan}
-use Rattle.kasa_top.specs.LemmasText.{lemmas_text, IsLemmasText}
 use Rattle.kasa_top.specs.Outcome.{Plans, IsReportOf, IsTooLong, HasFault, HasTooManyFamilies, HasTooManyRows, Fetches, FetchFails, IsOutcome}
-
--- ---- lists in an order that have the same elements
-
-module _ {X : Type 0} (Below : X → X → Type 0) (asym : (x y : X) → Below x y → Below y x → ⊥) where
-  -- each is below all that stand behind it
-  abbrev pub AreBelow : List X → Type 0
-  AreBelow [] = ⊤
-  AreBelow (x ∷ xs) = ((y : X) → Has xs y → Below x y) × AreBelow xs
-
-  pub AreBelow-numbered : (xs : List X) → ((i j : ℕ) (x y : X) → i < j → slice_get xs i ≡ Some x → slice_get xs j ≡ Some y → Below x y) → AreBelow xs
-  AreBelow-numbered [] below = tt
-  AreBelow-numbered (x ∷ xs) below = (
-    λ y (k, at). below 0 (suc k) x y (omega arith) refl at,
-    AreBelow-numbered xs (λ i j a b less at to. below (suc i) (suc j) a b (omega arith) at to),
-  )
-
-  pub ordered_same : (xs ys : List X) → AreBelow xs → AreBelow ys → ((x : X) → Has xs x ↔ Has ys x) → xs ≡ ys
-  ordered_same [] [] o p same = refl
-  ordered_same [] (y ∷ ys) o p same = absurd (Has-[] y ((same y).1 (Has-head y ys)))
-  ordered_same (x ∷ xs) [] o p same = absurd (Has-[] x ((same x).0 (Has-head x xs)))
-  ordered_same (x ∷ xs) (y ∷ ys) o p same = let rest : xs ≡ ys = ordered_same xs ys o.1 p.1 (λ s. (there s, back s)) in rw (first, rest) refl
-    where
-      heads : (x ≡ y) ⊎ Has ys x → (y ≡ x) ⊎ Has xs y → x ≡ y
-      heads (inl e) b = e
-      heads (inr h) (inl e) = sym e
-      heads (inr h) (inr k) = absurd (asym x y (o.0 y k) (p.0 x h))
-
-      first : x ≡ y
-      first = heads (Has-cons y ys x ((same x).0 (Has-head x xs))) (Has-cons x xs y ((same y).1 (Has-head y ys)))
-
-      not_first : (z s : X) → Below z s → z ≡ s → ⊥
-      not_first z s below e = let itself : Below z z = subst (λ t. Below z t) (sym e) below in asym z z itself itself
-
-      there : (s : X) → Has xs s → Has ys s
-      there s h = elim (Has-cons y ys s ((same s).0 (Has-later x xs s h))) [
-        | inl is ↦ absurd (not_first x s (o.0 s h) (first ∙ sym is))
-        | inr more ↦ more
-      ]
-
-      back : (s : X) → Has ys s → Has xs s
-      back s h = elim (Has-cons x xs s ((same s).1 (Has-later y ys s h))) [
-        | inl is ↦ absurd (not_first y s (p.0 s h) (sym first ∙ sym is))
-        | inr more ↦ more
-      ]
 
 -- ---- one plan
 
@@ -102,76 +61,6 @@ one_plan model families others plan other =
     (AreBelow-numbered Precedes Precedes-asym others other.ordered)
     (λ f. (λ h. (other.exact f).1 ((plan.exact f).0 h), λ h. (plan.exact f).1 ((other.exact f).0 h)))
 
--- ---- one text of tables
-
-rows_asym : (row next : Row) → IsRowBelow row next → IsRowBelow next row → ⊥
-rows_asym row next p q = IsRowBelow-strict row (IsRowBelow-trans row next row p q)
-
-AreBelow-ascending : (rows : List Row) → AreAscending rows → AreBelow IsRowBelow rows_asym rows
-AreBelow-ascending [] up = tt
-AreBelow-ascending (row ∷ []) up = (λ y h. absurd (Has-[] y h), tt)
-AreBelow-ascending (row ∷ next ∷ rows) up = (
-  λ y h. elim (Has-cons next rows y h) [
-    | inl is ↦ subst (λ z. IsRowBelow row z) (sym is) up.0
-    | inr more ↦ IsRowBelow-trans row next y up.0 ((AreBelow-ascending (next ∷ rows) up.1).0 y more)
-  ],
-  AreBelow-ascending (next ∷ rows) up.1,
-)
-
-module _ (first second : List Table) (same : (family : Family) (row : Row) → Holds first family row → Holds second family row) (different : AllDifferent (families_of second)) where
-  -- where tables hold the same, a row of one table stands in the other's at its number
-  row_there : (i : ℕ) (t u : Table) → slice_get first i ≡ Some t → slice_get second i ≡ Some u → t.family ≡ u.family → (row : Row) → Has t.rows row → Has u.rows row
-  row_there i t u at to e row h =
-      let held : Holds second t.family row = same t.family row (record { table = t; among = (i, at); of_family = refl; has_row = h }) in
-      let j = held.among.0 in
-      let there : slice_get (families_of second) j ≡ Some u.family = slice_get-map (λ (x : Table). x.family) second j ∙ rw held.among.1 (ap Some (held.of_family ∙ e)) in
-      let here : slice_get (families_of second) i ≡ Some u.family = slice_get-map (λ (x : Table). x.family) second i ∙ rw to refl in
-      let one : j ≡ i = different j i u.family there here in
-      let table : held.table ≡ u = (let at_i : slice_get second i ≡ Some held.table = subst (λ (k : ℕ). slice_get second k ≡ Some held.table) one held.among.1 in cc) in
-      subst (λ (x : Table). Has x.rows row) table held.has_row
-
--- two lists of tables in order that hold the same
-ordered_tables : (first second : List Table) → AllDifferent (families_of first) → families_of first ≡ families_of second → ((t : Table) → Has first t → AreAscending t.rows) → ((t : Table) → Has second t → AreAscending t.rows) →
-    ((family : Family) (row : Row) → Holds first family row ↔ Holds second family row) → first ≡ second
-ordered_tables first second different e up too same =
-    same_elements first second
-    (sym (length-map first (λ (x : Table). x.family)) ∙ ap length e ∙ length-map second (λ (x : Table). x.family))
-    (λ i t u at to. let family = families i t u at to in let rows = rows_at i t u at to in λ k. record { family = family k; rows = rows k })
-  where
-    families : (i : ℕ) (t u : Table) → slice_get first i ≡ Some t → slice_get second i ≡ Some u → t.family ≡ u.family
-    families i t u at to =
-        let here : slice_get (families_of first) i ≡ Some t.family = slice_get-map (λ (x : Table). x.family) first i ∙ rw at refl in
-        let there : slice_get (families_of second) i ≡ Some u.family = slice_get-map (λ (x : Table). x.family) second i ∙ rw to refl in
-        let both : slice_get (families_of first) i ≡ slice_get (families_of second) i = ap (λ (xs : List Family). slice_get xs i) e in
-        cc
-
-    rows_at : (i : ℕ) (t u : Table) → slice_get first i ≡ Some t → slice_get second i ≡ Some u → t.rows ≡ u.rows
-    rows_at i t u at to =
-        ordered_same IsRowBelow rows_asym t.rows u.rows
-        (AreBelow-ascending t.rows (up t (i, at)))
-        (AreBelow-ascending u.rows (too u (i, to)))
-        (λ row. (
-          row_there first second (λ family r. (same family r).0) (subst AllDifferent e different) i t u at to (families i t u at to) row,
-          row_there second first (λ family r. (same family r).1) different i u t to at (sym (families i t u at to)) row,
-        ))
-
--- tables that hold the same have one text
-one_lemmas_text : (sig : List TypeEntry) (tables others : List Table) (a b : List ℕ) → AllDifferent (families_of tables) → families_of tables ≡ families_of others → IsWithin tables others → IsWithin others tables →
-    IsLemmasText sig tables a → IsLemmasText sig others b → a ≡ b
-one_lemmas_text sig tables others a b different e there back p q =
-    let o = p.are_ordered in
-    let r = q.are_ordered in
-    let same : p.ordered ≡ q.ordered =
-    ordered_tables p.ordered q.ordered
-    (subst AllDifferent (sym o.families) different)
-    (o.families ∙ e ∙ sym r.families)
-    o.ascend r.ascend
-    (λ family row. (
-      λ h. (r.rows family row).1 (there family row ((o.rows family row).0 h)),
-      λ h. (o.rows family row).1 (back family row ((r.rows family row).0 h)),
-    )) in
-    p.printed ∙ ap (lemmas_text sig) same ∙ sym q.printed
-
 -- ---- one model, one report
 
 one_model : (text : List ℕ) (model other : Model) → IsModelOf text model → IsModelOf text other → model ≡ other
@@ -191,21 +80,21 @@ same_plans text model other families others p q =
 
 -- the report of a model's text, over its model
 record IsReportOver (text report : List ℕ) (model : Model) : Type 0 where
+  valid_model : IsModel model
   tables : List Table
   plans : Plans text model (families_of tables)
   valid : AreTables model.sig tables
   least : IsLeast model tables
-  printed : IsLemmasText model.sig tables report
+  printed : IsReport model tables report
 
 over : (text report : List ℕ) (r : IsReportOf text report) → IsReportOver text report r.model
-over text report r = record { tables = r.tables; plans = r.plans; valid = r.valid; least = r.least; printed = r.printed }
+over text report r = record { valid_model = r.valid_model; tables = r.tables; plans = r.plans; valid = r.valid; least = r.least; printed = r.printed }
 
 same_report : (text a b : List ℕ) (model : Model) → IsReportOver text a model → IsReportOver text b model → a ≡ b
 same_report text a b model p q =
     let e = (same_plans text model model (families_of p.tables) (families_of q.tables) p.plans q.plans).1 in
-    one_lemmas_text model.sig p.tables q.tables a b p.valid.different e
-    (p.least.least q.tables q.valid (sym e) q.least.closed)
-    (q.least.least p.tables p.valid e p.least.closed)
+    one_tables_report model p.tables q.tables a b p.valid_model p.valid
+    (record { families = sym e; there = p.least.least q.tables q.valid (sym e) q.least.closed; back = q.least.least p.tables p.valid e p.least.closed })
     p.printed q.printed
 
 one_report : (text a b : List ℕ) → IsReportOf text a → IsReportOf text b → a ≡ b

@@ -4,8 +4,6 @@ pub mod Status
 pub mod Words
 pub mod Plan
 pub mod ViewSets
-pub mod LemmasText
-pub mod Ordered
 pub mod Outcome
 pub mod Fetched
 pub mod Sound

@@ -2,6 +2,7 @@
 use Rattle.std.specs.Prelude.{◌≡◌, ℕ, ◌<◌, ◌≤◌, ◌⊎◌, ◌++◌, List, length, take, Option, Some, None, option_map}
 use Rattle.kasa_edge.specs.Shelf.{Held, held_at}
 use Rattle.kasa_rules.specs.declared.model.Model.{Model}
+use Rattle.kasa_rules.specs.Reached.{IsModel}
 use Rattle.kasa_compile.specs.declared.fault.ModelFault.{ModelFault}
 use Rattle.kasa_compile.specs.Model.{IsModelOf, IsFaultOf}
 use Rattle.kasa_families.specs.declared.family.Family.{Family}
@@ -10,7 +11,7 @@ use Rattle.kasa_pre.specs.Closed.{IsLeast}
 use Rattle.kasa_tables.specs.Insert.{row_count}
 use Rattle.kasa_fixpoint.specs.Limit.{PassesLimit}
 use Rattle.kasa_top.specs.Plan.{IsViewPlan, PlansMore}
-use Rattle.kasa_top.specs.LemmasText.{IsLemmasText}
+use Rattle.kasa_report.specs.Report.{IsReport}
 use Rattle.kasa_top.specs.Status.{status_text}
 use Rattle.kasa_top.specs.Words.{IsAnalyse}
 use Rattle.kasa_top.specs.declared.status.Status.{Status}
@@ -23,15 +24,16 @@ pub record Plans (text : List ℕ) (model : Model) (families : List Family) : Ty
   pub planned : IsViewPlan model families
   pub few : length families ≤ 8000
 
--- the report of a model's text: the least closed tables of the planned views, printed
+-- the report of a model's text, over the least closed tables of the planned views
 pub record IsReportOf (text report : List ℕ) : Type 0 where
   pub model : Model
+  pub valid_model : IsModel model
   pub tables : List Table
   pub plans : Plans text model (families_of tables)
   pub valid : AreTables model.sig tables
   pub least : IsLeast model tables
   pub few_rows : row_count tables ≤ 200000
-  pub printed : IsLemmasText model.sig tables report
+  pub printed : IsReport model tables report
 
 -- the text is longer than 4 MiB
 abbrev pub IsTooLong : List ℕ → Type 0

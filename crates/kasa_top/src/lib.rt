@@ -3,7 +3,6 @@
 
 mod faults;
 pub mod laws;
-mod lemmas;
 mod plan;
 mod program;
 mod status;

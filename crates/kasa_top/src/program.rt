@@ -12,12 +12,12 @@ ghost use Rattle.kasa_top.specs.Due.{IsMadeAndWritten, IsRefused, IsSolved, IsSo
 
 use crate::Status;
 use crate::faults::fault_text;
-use crate::lemmas::lemmas_section;
 use crate::plan::plan;
 use kasa_compile::{ModelFault, read_model};
 use kasa_edge::{Failed, FetchFault, Shelf, Sink};
 use kasa_fixpoint::solve;
 use kasa_num::{NoMemory, Steps};
+use kasa_report::report;
 use kasa_rules::Model;
 use kasa_tables::Tables;
 use std::alloc::Global;
@@ -83,7 +83,7 @@ fn solve_plan<L: Ledger>(blank: Blank, alloc: Global, model: &Model) -> Result<T
 }
 
 // The report of a model's text.
-fn report(alloc: Global, text: &[u8]) -> Result<Vec<u8>, Status>
+fn analyse(alloc: Global, text: &[u8]) -> Result<Vec<u8>, Status>
     ensures report { IfOk result (λ printed. IsSoundReport text.now printed.items) }
     ensures unreported { IfErr result (λ status. IsUnreported text.now status) }
 {
@@ -92,7 +92,7 @@ fn report(alloc: Global, text: &[u8]) -> Result<Vec<u8>, Status>
     }
     let model = read_model(alloc, text)?;
     let tables = solve_plan::<Brand>(Blank::new(1), alloc, &model)?;
-    Ok(lemmas_section(alloc, &model.sig, &tables)?)
+    Ok(report(alloc, &model, &tables)?)
 }
 
 // The report that is due, or the status without one.
@@ -105,7 +105,7 @@ fn answer<S: Shelf>(alloc: Global, words: &[String], shelf: &mut S) -> Result<Ve
         return Err(Status::BadWords);
     };
     let text = fetch_model(shelf, name)?;
-    report(alloc, text.as_slice())
+    analyse(alloc, text.as_slice())
 }
 
 // Writes some of what stands at and behind a place.
@@ -169,9 +169,9 @@ fn refuse<O: Sink>(alloc: Global, out: &mut O, status: Status) -> Status
     }
 }
 
-/// Does what the words ask for, over the texts of a shelf, and prints to a sink. `analyse MODEL` prints what the sites of
-/// each agent can never hold together, as the least closed tables of the planned views, which are orthogonal pattern
-/// sets after Feret and Ly. The status says how it ended; the text due is made whole before any of it is written.
+/// Does what the words ask for, over the texts of a shelf, and prints to a sink. `analyse MODEL` prints what bonds and states
+/// there can be, what the sites of each agent can never hold together, which rules can never fire, and how large species
+/// can become, all by the least closed tables of the planned views, which are orthogonal pattern sets after Feret and Ly. The status says how it ended; the text due is made whole before any of it is written.
 pub fn run<S: Shelf, O: Sink>(alloc: Global, words: &[String], shelf: &mut S, out: &mut O) -> Status
     ensures ends { Ends (map string_bytes words.now) (S.held shelf.old) (Rose (S.read_faults shelf.old) (S.read_faults shelf.new)) (Rose (O.faults out.old) (O.faults out.new)) result (O.taken out.old) (O.taken out.new) }
     ensures sound { result ≡ Status.Done → TakesSoundReport (map string_bytes words.now) (S.held shelf.old) (O.taken out.old) (O.taken out.new) }

@@ -21,7 +21,7 @@ new-requires-2-clause-model g c =
 pub insert_inits-requires : goal.insert_inits-requires
 insert_inits-requires g c =
     record {
-      under_way = rw c.in_ok-tables.ensures (IsUnderWay-empty c.args.model.now c.args.families.items c.requires.different c.requires.valid c.requires.columns);
+      under_way = rw c.in_ok-tables.ensures (IsUnderWay-empty c.args.model.now c.args.families.items c.requires.different c.requires.valid);
     }
 
 pub returns-in_err-insert_inits-clause-too_many : goal.returns-in_err-insert_inits-clause-too_many

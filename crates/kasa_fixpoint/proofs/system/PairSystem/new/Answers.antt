@@ -9,7 +9,6 @@ pub invariant_of-result : goal.invariant_of-result
 invariant_of-result c = record {
   model = c.requires.model;
   valid = c.requires.valid;
-  columns = c.requires.columns;
   acting = rw c.as_slice.ensures.value at c.in_ok-pairs.ensures.acting;
   few = let few = c.in_ok-pairs.ensures.few in let size = ap length c.as_slice.ensures.value in let families = c.requires.few in omega arith;
   readers = rw (c.as_slice-2.ensures.value, c.as_slice-3.ensures.value) at c.in_ok-readers.ensures;
@@ -21,7 +20,6 @@ returns-clause-planned c = (
   record {
     model = c.requires.model;
     valid = c.requires.valid;
-    columns = c.requires.columns;
     acting = rw c.as_slice.ensures.value at c.in_ok-pairs.ensures.acting;
     few = let few = c.in_ok-pairs.ensures.few in let size = ap length c.as_slice.ensures.value in let families = c.requires.few in omega arith;
     readers = rw (c.as_slice-2.ensures.value, c.as_slice-3.ensures.value) at c.in_ok-readers.ensures;

@@ -3,7 +3,7 @@ use Rattle.std.specs.Prelude.{Some, slice_get}
 use Rattle.std.proofs.lemmas.Option.{slice_get_read, slice_get_within}
 use Rattle.kasa_rules.specs.declared.model.Model.{Model}
 use Rattle.kasa_fixpoint.specs.System.{SystemParts, IsPlanned}
-use Rattle.kasa_fixpoint.proofs.ApplyLemmas.{here, over, family_of_tables, has_columns, has_room, too_many, lacks_room, shapes, applies_answer}
+use Rattle.kasa_fixpoint.proofs.ApplyLemmas.{here, over, family_of_tables, has_room, too_many, lacks_room, shapes, applies_answer}
 use Rattle.kasa_fixpoint.proofs.system.PairSystemSystem.apply.Goals as goal
 
 pub bounds-as_slice-pair : goal.bounds-as_slice-pair
@@ -26,13 +26,13 @@ new_rows-requires-clause-over g c =
     let sig = ap (λ (m : Model). m.sig) c.model.view_is ∙ ap (λ (q : SystemParts). q.model.sig) c.self.view_is in
     rw sig (over c.args.self.now c.self.inside.readers.items planned c.args.pair c.requires.pair c.index-pair.result.now numbered c.index-as_slice-pair.result ruled)
 
-pub new_rows-requires-clause-columns : goal.new_rows-requires-clause-columns
-new_rows-requires-clause-columns g c =
+pub new_rows-requires-clause-there : goal.new_rows-requires-clause-there
+new_rows-requires-clause-there g c =
     let planned : IsPlanned c.args.self.now c.self.inside.readers.items = rw c.self.view_is at c.self.invariant in
     let pairs = ap (λ (q : SystemParts). q.pairs) c.self.view_is in
     let numbered : slice_get c.args.self.now.pairs c.args.pair ≡ Some c.index-pair.result.now = rw pairs at (slice_get_read c.self.inside.pairs.items _ c.args.pair c.index-pair.result.now refl (rw pairs c.requires.pair) c.index-pair.ensures) in
     let its = here c.args.self.now c.self.inside.readers.items planned c.args.pair c.requires.pair c.index-pair.result.now numbered in
-    (its.family, family_of_tables c.args.self.now c.self.inside.readers.items planned c.args.pair c.requires.pair c.index-pair.result.now numbered c.args.tables.now c.requires.room, has_columns c.args.self.now c.self.inside.readers.items planned c.args.pair c.requires.pair c.index-pair.result.now numbered c.args.tables.now c.requires.room)
+    (its.family, family_of_tables c.args.self.now c.self.inside.readers.items planned c.args.pair c.requires.pair c.index-pair.result.now numbered c.args.tables.now c.requires.room)
 
 pub returns-then-len-gt-MOST_ROWS-clause-too_many : goal.returns-then-len-gt-MOST_ROWS-clause-too_many
 returns-then-len-gt-MOST_ROWS-clause-too_many g c e =
