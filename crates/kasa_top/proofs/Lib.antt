@@ -9,3 +9,4 @@ pub mod MentionLemmas
 pub mod SiteSetLemmas
 pub mod PlanLemmas
 pub mod OneOutcome
+pub mod SomePlan

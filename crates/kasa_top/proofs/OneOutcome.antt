@@ -32,7 +32,7 @@ use Rattle.kasa_top.specs.Outcome.{Plans, IsReportOf, IsTooLong, HasFault, HasTo
 
 -- ---- one plan
 
-lists_asym : (xs ys : List ℕ) → PrecedesList xs ys → PrecedesList ys xs → ⊥
+pub lists_asym : (xs ys : List ℕ) → PrecedesList xs ys → PrecedesList ys xs → ⊥
 lists_asym [] [] p q = p
 lists_asym [] (y ∷ ys) p q = q
 lists_asym (x ∷ xs) [] p q = p
@@ -41,7 +41,7 @@ lists_asym (x ∷ xs) (y ∷ ys) (inl a) (inr b) = let e = b.0 in omega arith
 lists_asym (x ∷ xs) (y ∷ ys) (inr a) (inl b) = let e = a.0 in omega arith
 lists_asym (x ∷ xs) (y ∷ ys) (inr a) (inr b) = lists_asym xs ys a.1 b.1
 
-Precedes-asym : (f g : Family) → Precedes f g → Precedes g f → ⊥
+pub Precedes-asym : (f g : Family) → Precedes f g → Precedes g f → ⊥
 Precedes-asym (View a s) (View b t) (inl p) (inl q) = omega arith
 Precedes-asym (View a s) (View b t) (inl p) (inr q) = let e = q.0 in omega arith
 Precedes-asym (View a s) (View b t) (inr p) (inl q) = let e = p.0 in omega arith
