@@ -13,14 +13,19 @@ const HUB: &[u8] = b"%agent: Hub(port, lock{open shut})
 'open' Hub(lock{shut/open}) @ 1
 ";
 
-const REPORT: &[u8] = b"lemmas
+const REPORT: &[u8] = b"contact map
+ Hub.port[nose.Cart]
+ Hub.lock{open shut}
+ Cart.nose[port.Hub]
+lemmas
  Hub()
   Hub(port[.],lock{open}[.])
   Hub(port[nose.Cart],lock{open}[.])
   Hub(port[nose.Cart],lock{shut}[.])
- Cart()
-  Cart(nose[.])
-  Cart(nose[port.Hub])
+dead rules
+ none
+polymers
+ none: at most 2 agents
 ";
 
 // The code of `analyse m`, and what the sink has taken, where the shelf holds the hub and fails at these calls.

@@ -32,7 +32,7 @@ sound_report text model tables printed short valid read solved few_rows is_repor
     few_rows = few_rows;
     printed = is_report;
   };
-  sound = record { lemmas = solved.lemmas; dead = solved.dead; printed = sound model tables printed valid solved.valid solved.least.closed is_report };
+  sound = record { lemmas = solved.lemmas; dead = solved.dead; told = sound model tables printed valid solved.valid solved.least.closed is_report };
 }
 
 -- ---- of the text that is held under the name that the words give

@@ -1,18 +1,9 @@
 -- For given words and held texts one status and one text are due.
-use Rattle.std.proofs.Common.{◌≡◌, ℕ, suc, ◌<◌, ◌≤◌, ◌⊎◌, inl, inr, List, [], ◌∷◌, length, refl, sym, ap, subst, ◌∙◌, arith}
-use Rattle.std.specs.Prelude.{Option, Some, None, Ok, Err, slice_get, ◌↔◌, ⊤}
-use Rattle.std.proofs.lemmas.Option.{slice_get-map}
-use Rattle.std.proofs.lemmas.List.{length-map}
-use Rattle.kasa_lists.specs.Lists.{Has, AllDifferent}
-use Rattle.kasa_lists.proofs.Elements.{same_elements}
-use Rattle.kasa_lists.proofs.Having.{Has-[], Has-head, Has-later, Has-cons}
-use Rattle.kasa_graph.specs.Signature.{TypeEntry}
+use Rattle.std.proofs.Common.{◌≡◌, ℕ, ◌<◌, ◌≤◌, ◌⊎◌, inl, inr, List, [], ◌∷◌, length, refl, sym, subst, ◌∙◌, arith}
+use Rattle.std.specs.Prelude.{Option, Some, None, Ok, Err}
 use Rattle.kasa_families.specs.declared.family.Family.{Family}
 use Rattle.kasa_families.specs.declared.family.Family.TheVariants.{View, Across, Parallel, Chain}
-use Rattle.kasa_families.specs.declared.row.Row.{Row}
-use Rattle.kasa_families.specs.Row.{IsRowBelow, AreAscending}
-use Rattle.kasa_families.specs.Table.{Table, families_of, AreTables, Holds, IsWithin}
-use Rattle.kasa_families.proofs.RowOrder.{IsRowBelow-trans, IsRowBelow-strict}
+use Rattle.kasa_families.specs.Table.{Table, families_of, AreTables}
 use Rattle.kasa_tables.specs.Insert.{row_count}
 use Rattle.kasa_rules.specs.declared.model.Model.{Model}
 use Rattle.kasa_rules.specs.Reached.{IsModel}

@@ -13,12 +13,12 @@ use Rattle.kasa_rules.specs.Reached.{IsModel}
 use Rattle.kasa_families.specs.declared.family.Family.{Family}
 use Rattle.kasa_families.specs.declared.family.Family.TheVariants.{View}
 use Rattle.kasa_report.proofs.InOrder.{AreBelow}
-use Rattle.kasa_top.specs.Plan.{IsLeftNode, IsListOf, IsSiteSet, IsUnmentionedSet, IsWithin, IsViewOf, PrecedesList, Precedes, IsViewPlan}
-use Rattle.kasa_top.specs.ViewSets.{IsSomePart, IsMentionedPart, IsInSome, IsInNoLarger, IsViewFamily}
-use Rattle.kasa_top.proofs.PlanLists.{IsListBelow-end, list_below}
+use Rattle.kasa_top.specs.Plan.{IsLeftNode, IsSiteSet, IsUnmentionedSet, IsWithin, IsViewOf, PrecedesList, Precedes, IsViewPlan}
+use Rattle.kasa_top.specs.ViewSets.{IsSomePart, IsInSome, IsInNoLarger}
+use Rattle.kasa_top.proofs.PlanLists.{list_below}
 use Rattle.kasa_top.proofs.MentionLemmas.{mentioned_list}
 use Rattle.kasa_top.proofs.SiteSetLemmas.{adds_parts, HasPartsBefore, parts_more, parts_skip, parts_all, HasRulePartsBefore, rule_parts_more, rule_parts_all, unmentioned_list, site_sets_all}
-use Rattle.kasa_top.proofs.PlanLemmas.{AddsViews, adds_largest, view_empty, planned_more, IsPlannedBefore, IsViewPlan-all}
+use Rattle.kasa_top.proofs.PlanLemmas.{AddsViews, view_empty, planned_more, IsPlannedBefore, IsViewPlan-all}
 use Rattle.kasa_top.proofs.OneOutcome.{lists_asym, Precedes-asym}
 
 -- ---- what is decided
@@ -42,7 +42,7 @@ in_some_or_not (set ∷ sets) s = elim (has_or_not set s) [
   | inl h ↦ inl (set, Has-head set sets, h)
   | inr none ↦ elim (in_some_or_not sets s) [
     | inl h ↦ inl (h.0, Has-later set sets h.0 h.1, h.2)
-    | inr no ↦ inr (λ h. elim (Has-cons set sets h.0 h.1) [ inl e ↦ none (subst (λ xs. Has xs s) e h.2) | inr more ↦ no (h.0, more, h.2) ])
+    | inr never ↦ inr (λ h. elim (Has-cons set sets h.0 h.1) [ inl e ↦ none (subst (λ xs. Has xs s) e h.2) | inr more ↦ never (h.0, more, h.2) ])
   ]
 ]
 
@@ -51,7 +51,7 @@ within_or_not [] ys = inl (λ s h. absurd (Has-[] s h))
 within_or_not (x ∷ xs) ys = elim (has_or_not ys x) [
   | inr none ↦ inr (λ within. none (within x (Has-head x xs)))
   | inl here ↦ elim (within_or_not xs ys) [
-    | inr no ↦ inr (λ within. no (λ s h. within s (Has-later x xs s h)))
+    | inr never ↦ inr (λ within. never (λ s h. within s (Has-later x xs s h)))
     | inl rest ↦ inl (λ s h. elim (Has-cons x xs s h) [ inl e ↦ subst (Has ys) (sym e) here | inr more ↦ rest s more ])
   ]
 ]
@@ -59,7 +59,7 @@ within_or_not (x ∷ xs) ys = elim (has_or_not ys x) [
 none_larger : (sets : List (List ℕ)) (sites : List ℕ) → Decided (IsInNoLarger sets sites)
 none_larger [] sites = inl (λ others h. absurd (Has-[] others h))
 none_larger (set ∷ sets) sites = elim (none_larger sets sites) [
-  | inr no ↦ inr (λ largest. no (λ others h. largest others (Has-later set sets others h)))
+  | inr never ↦ inr (λ largest. never (λ others h. largest others (Has-later set sets others h)))
   | inl rest ↦ elim (within_or_not set sites) [
     | inl back ↦ inl (λ others h within. elim (Has-cons set sets others h) [
       | inl e ↦ subst (λ xs. IsWithin xs sites) (sym e) back
@@ -79,10 +79,13 @@ none_larger (set ∷ sets) sites = elim (none_larger sets sites) [
 
 with_some : (set : List ℕ) (sets : List (List ℕ)) → (new : List (List ℕ)) × ((s : List ℕ) → Has new s ↔ (Has sets s ⊎ ((s ≡ set) × (s ≢ []))))
 with_some [] sets = (sets, λ s. (λ h. inl h, λ e. elim e [ inl h ↦ h | inr own ↦ absurd (own.1 own.0) ]))
-with_some (x ∷ set) sets = ((x ∷ set) ∷ sets, λ s. (
-  λ h. elim (Has-cons (x ∷ set) sets s h) [ inl e ↦ inr (e, λ none. let both : x ∷ set ≡ [] = sym e ∙ none in absurd cc) | inr more ↦ inl more ],
-  λ e. elim e [ inl h ↦ Has-later (x ∷ set) sets s h | inr own ↦ subst (Has ((x ∷ set) ∷ sets)) (sym own.0) (Has-head (x ∷ set) sets) ],
-))
+with_some (x ∷ set) sets = (
+  (x ∷ set) ∷ sets,
+  λ s. (
+    λ h. elim (Has-cons (x ∷ set) sets s h) [ inl e ↦ inr (e, λ none. let both : x ∷ set ≡ [] = sym e ∙ none in absurd cc) | inr more ↦ inl more ],
+    λ e. elim e [ inl h ↦ Has-later (x ∷ set) sets s h | inr own ↦ subst (Has ((x ∷ set) ∷ sets)) (sym own.0) (Has-head (x ∷ set) sets) ],
+  ),
+)
 
 with_parts : (whole : List ℕ) (sets : List (List ℕ)) → (new : List (List ℕ)) × ((part : List ℕ) → Has new part ↔ (Has sets part ⊎ IsSomePart whole part))
 with_parts whole sets =
@@ -131,7 +134,7 @@ module _ (model : Model) (valid : IsModel model) (a : ℕ) where
       let count = length (state_counts model.sig a) in
       let mentioned = rules_before (length model.rules) (omega arith) in
       let exact = rule_parts_all model (length model.rules) a mentioned.0 (omega arith) mentioned.1 in
-      let free = list_below (λ s. IsInSome mentioned.0 s → ⊥) (λ s. elim (in_some_or_not mentioned.0 s) [ inl h ↦ inr (λ no. no h) | inr no ↦ inl no ]) count in
+      let free = list_below (λ s. IsInSome mentioned.0 s → ⊥) (λ s. elim (in_some_or_not mentioned.0 s) [ inl h ↦ inr (λ never. never h) | inr never ↦ inl never ]) count in
       let others : IsUnmentionedSet model a free.0 = unmentioned_list model a count mentioned.0 free.0 valid exact refl free.1 in
       let new = with_parts free.0 mentioned.0 in
       (new.0, site_sets_all model a mentioned.0 new.0 free.0 exact others new.1)
@@ -143,20 +146,26 @@ largest all [] = ([], λ s. (λ h. absurd (Has-[] s h), λ h. h.0))
 largest all (x ∷ xs) = by (largest all xs) (none_larger all x)
   where
     by : (ys : List (List ℕ)) × ((s : List ℕ) → Has ys s ↔ (Has xs s × IsInNoLarger all s)) → Decided (IsInNoLarger all x) → (ys : List (List ℕ)) × ((s : List ℕ) → Has ys s ↔ (Has (x ∷ xs) s × IsInNoLarger all s))
-    by (ys, exact) (inl here) = (x ∷ ys, λ s. (
-      λ h. elim (Has-cons x ys s h) [
-        | inl e ↦ (subst (Has (x ∷ xs)) (sym e) (Has-head x xs), subst (IsInNoLarger all) (sym e) here)
-        | inr more ↦ let own = (exact s).0 more in (Has-later x xs s own.0, own.1)
-      ],
-      λ h. elim (Has-cons x xs s h.0) [
-        | inl e ↦ subst (Has (x ∷ ys)) (sym e) (Has-head x ys)
-        | inr more ↦ Has-later x ys s ((exact s).1 (more, h.1))
-      ],
-    ))
-    by (ys, exact) (inr no) = (ys, λ s. (
-      λ h. let own = (exact s).0 h in (Has-later x xs s own.0, own.1),
-      λ h. elim (Has-cons x xs s h.0) [ inl e ↦ absurd (no (subst (IsInNoLarger all) e h.1)) | inr more ↦ (exact s).1 (more, h.1) ],
-    ))
+    by (ys, exact) (inl here) = (
+      x ∷ ys,
+      λ s. (
+        λ h. elim (Has-cons x ys s h) [
+          | inl e ↦ (subst (Has (x ∷ xs)) (sym e) (Has-head x xs), subst (IsInNoLarger all) (sym e) here)
+          | inr more ↦ let own = (exact s).0 more in (Has-later x xs s own.0, own.1)
+        ],
+        λ h. elim (Has-cons x xs s h.0) [
+          | inl e ↦ subst (Has (x ∷ ys)) (sym e) (Has-head x ys)
+          | inr more ↦ Has-later x ys s ((exact s).1 (more, h.1))
+        ],
+      ),
+    )
+    by (ys, exact) (inr never) = (
+      ys,
+      λ s. (
+        λ h. let own = (exact s).0 h in (Has-later x xs s own.0, own.1),
+        λ h. elim (Has-cons x xs s h.0) [ inl e ↦ absurd (never (subst (IsInNoLarger all) e h.1)) | inr more ↦ (exact s).1 (more, h.1) ],
+      ),
+    )
 
 lists-trans : (xs ys zs : List ℕ) → PrecedesList xs ys → PrecedesList ys zs → PrecedesList xs zs
 lists-trans [] [] zs p q = absurd p
@@ -202,36 +211,47 @@ put x (y ∷ xs) up = by (list_order x y) (put x xs up.1)
   where
     by : PrecedesList x y ⊎ (x ≡ y) ⊎ PrecedesList y x → (ys : List (List ℕ)) × Ordered ys × ((s : List ℕ) → Has ys s ↔ Has (x ∷ xs) s) → (ys : List (List ℕ)) × Ordered ys × ((s : List ℕ) → Has ys s ↔ Has (x ∷ y ∷ xs) s)
     by (inl less) rest = (x ∷ y ∷ xs, (λ z h. elim (Has-cons y xs z h) [ inl e ↦ subst (PrecedesList x) (sym e) less | inr more ↦ lists-trans x y z less (up.0 z more) ], up), λ s. (λ h. h, λ h. h))
-    by (inr (inl e)) rest = (y ∷ xs, up, λ s. (
-      λ h. Has-later x (y ∷ xs) s h,
-      λ h. elim (Has-cons x (y ∷ xs) s h) [ inl same ↦ subst (Has (y ∷ xs)) (sym (same ∙ e)) (Has-head y xs) | inr more ↦ more ],
-    ))
-    by (inr (inr more)) (ys, order, exact) = (y ∷ ys, (λ z h. elim (Has-cons x xs z ((exact z).0 h)) [ inl e ↦ subst (PrecedesList y) (sym e) more | inr own ↦ up.0 z own ], order), λ s. (
-      λ h. elim (Has-cons y ys s h) [
-        | inl e ↦ Has-later x (y ∷ xs) s (subst (Has (y ∷ xs)) (sym e) (Has-head y xs))
-        | inr own ↦ elim (Has-cons x xs s ((exact s).0 own)) [
-          | inl e ↦ subst (Has (x ∷ y ∷ xs)) (sym e) (Has-head x (y ∷ xs))
-          | inr old ↦ Has-later x (y ∷ xs) s (Has-later y xs s old)
-        ]
-      ],
-      λ h. elim (Has-cons x (y ∷ xs) s h) [
-        | inl e ↦ Has-later y ys s ((exact s).1 (subst (Has (x ∷ xs)) (sym e) (Has-head x xs)))
-        | inr own ↦ elim (Has-cons y xs s own) [
-          | inl e ↦ subst (Has (y ∷ ys)) (sym e) (Has-head y ys)
-          | inr old ↦ Has-later y ys s ((exact s).1 (Has-later x xs s old))
-        ]
-      ],
-    ))
+    by (inr (inl e)) rest = (
+      y ∷ xs,
+      up,
+      λ s. (
+        λ h. Has-later x (y ∷ xs) s h,
+        λ h. elim (Has-cons x (y ∷ xs) s h) [ inl same ↦ subst (Has (y ∷ xs)) (sym (same ∙ e)) (Has-head y xs) | inr more ↦ more ],
+      ),
+    )
+    by (inr (inr more)) (ys, order, exact) = (
+      y ∷ ys,
+      (λ z h. elim (Has-cons x xs z ((exact z).0 h)) [ inl e ↦ subst (PrecedesList y) (sym e) more | inr own ↦ up.0 z own ], order),
+      λ s. (
+        λ h. elim (Has-cons y ys s h) [
+          | inl e ↦ Has-later x (y ∷ xs) s (subst (Has (y ∷ xs)) (sym e) (Has-head y xs))
+          | inr own ↦ elim (Has-cons x xs s ((exact s).0 own)) [
+            | inl e ↦ subst (Has (x ∷ y ∷ xs)) (sym e) (Has-head x (y ∷ xs))
+            | inr old ↦ Has-later x (y ∷ xs) s (Has-later y xs s old)
+          ]
+        ],
+        λ h. elim (Has-cons x (y ∷ xs) s h) [
+          | inl e ↦ Has-later y ys s ((exact s).1 (subst (Has (x ∷ xs)) (sym e) (Has-head x xs)))
+          | inr own ↦ elim (Has-cons y xs s own) [
+            | inl e ↦ subst (Has (y ∷ ys)) (sym e) (Has-head y ys)
+            | inr old ↦ Has-later y ys s ((exact s).1 (Has-later x xs s old))
+          ]
+        ],
+      ),
+    )
 
 in_order : (xs : List (List ℕ)) → (ys : List (List ℕ)) × Ordered ys × ((s : List ℕ) → Has ys s ↔ Has xs s)
 in_order [] = ([], tt, λ s. (λ h. h, λ h. h))
 in_order (x ∷ xs) =
     let rest = in_order xs in
-    let new = put x rest.0 rest.1 in
-    (new.0, new.1, λ s. (
-      λ h. elim (Has-cons x rest.0 s ((new.2 s).0 h)) [ inl e ↦ subst (Has (x ∷ xs)) (sym e) (Has-head x xs) | inr more ↦ Has-later x xs s ((rest.2 s).0 more) ],
-      λ h. (new.2 s).1 (elim (Has-cons x xs s h) [ inl e ↦ subst (Has (x ∷ rest.0)) (sym e) (Has-head x rest.0) | inr more ↦ Has-later x rest.0 s ((rest.2 s).1 more) ]),
-    ))
+    let new = put x rest.0 rest.1 in (
+      new.0,
+      new.1,
+      λ s. (
+        λ h. elim (Has-cons x rest.0 s ((new.2 s).0 h)) [ inl e ↦ subst (Has (x ∷ xs)) (sym e) (Has-head x xs) | inr more ↦ Has-later x xs s ((rest.2 s).0 more) ],
+        λ h. (new.2 s).1 (elim (Has-cons x xs s h) [ inl e ↦ subst (Has (x ∷ rest.0)) (sym e) (Has-head x rest.0) | inr more ↦ Has-later x rest.0 s ((rest.2 s).1 more) ]),
+      ),
+    )
 
 -- ---- the views of a type
 

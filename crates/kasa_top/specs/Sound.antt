@@ -20,7 +20,7 @@ use Rattle.kasa_top.specs.Words.{IsAnalyse}
 pub record IsSound (text printed : List ℕ) (report : IsReportOf text printed) : Type 0 where
   pub lemmas : (m : List (Option Agent)) → Reached report.model m → (family : Family) → Has (families_of report.tables) family → LemmaHolds report.model.sig report.tables family m
   pub dead : (m : List (Option Agent)) → Reached report.model m → (r : RuleParts) → IsDead report.model.sig report.tables r → (cells : List ℕ) → ¬ IsEmbedding r.left m cells
-  pub printed : IsSoundReport report.model report.tables printed report.printed
+  pub told : IsSoundReport report.model report.tables printed report.printed
 
 -- the sink took a sound report of the text that is held under the name that the words give
 pub record TakesSoundReport (words : List (List ℕ)) (held : Held) (old new : Option (List ℕ)) : Type 0 where
