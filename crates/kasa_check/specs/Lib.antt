@@ -1,0 +1,3 @@
+pub mod Lacked
+pub mod Verdict
+pub mod Search
