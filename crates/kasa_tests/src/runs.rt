@@ -1,4 +1,5 @@
 //! Whole runs over the hub, whose shelf or sink fails at a numbered call.
+use kasa_choose::{Chooser, ViewChooser};
 use kasa_edge::{ShelfMem, SinkMem};
 use kasa_top::run;
 use std::alloc::Global;
@@ -35,7 +36,9 @@ fn analyse(alloc: Global, fails: Vec<u32>, mut out: SinkMem) -> Result<(u8, Vec<
     words.push("m".to_string(alloc)?)?;
     let mut shelf = ShelfMem::new(alloc, fails);
     shelf.put("m", HUB)?;
-    let status = run(alloc, words.as_slice(), &mut shelf, &mut out);
+    let mut choosers: Vec<Box<dyn Chooser>> = Vec::new(alloc);
+    choosers.push(Box::new(alloc, ViewChooser::new(alloc))?)?;
+    let status = run(alloc, words.as_slice(), &mut shelf, &mut out, choosers);
     Ok((status.code(), out.taken().to_vec(alloc)?))
 }
 

@@ -2,11 +2,4 @@ pub mod Written
 pub mod WordLemmas
 pub mod FetchedLemmas
 pub mod DueLemmas
-pub mod PlanLists
-pub mod InsertedKeys
-pub mod ViewOrder
-pub mod MentionLemmas
-pub mod SiteSetLemmas
-pub mod PlanLemmas
 pub mod OneOutcome
-pub mod SomePlan

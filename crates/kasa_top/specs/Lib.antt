@@ -2,8 +2,6 @@ pub mod LineText
 pub mod FaultText
 pub mod Status
 pub mod Words
-pub mod Plan
-pub mod ViewSets
 pub mod Outcome
 pub mod Fetched
 pub mod Sound

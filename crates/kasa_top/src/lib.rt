@@ -3,9 +3,9 @@
 
 mod faults;
 pub mod laws;
-mod plan;
 mod program;
 mod status;
+mod words;
 
 pub use program::run;
 pub use status::Status;

@@ -2,17 +2,18 @@
 ghost use Rattle.std.specs.Prelude.{◌≡◌, ◌≢◌, ◌≤◌, ◌<◌, ◌+◌, ◌++◌, ◌⊎◌, ℕ, length, map, take, drop, List, IsTrue, ◌↔◌, IfOk, IfErr, OnOk, OnErr, MatchOption, MatchResult, Some, None, option_map, string_bytes, codes};
 ghost use Rattle.kasa_edge.specs.Causes.{Rose};
 ghost use Rattle.kasa_edge.specs.Shelf.{held_at};
-ghost use Rattle.kasa_top.specs.Outcome.{Ends, Fetches};
-ghost use Rattle.kasa_top.specs.Words.{IsAnalyse, IsTextName};
+ghost use Rattle.kasa_top.specs.Outcome.{Ends};
+ghost use Rattle.kasa_choose.specs.Gathered.{IsGathered};
 ghost use Rattle.kasa_top.specs.Fetched.{Fetched};
 ghost use Rattle.kasa_top.specs.Sound.{TakesSoundReport};
 ghost use Rattle.kasa_top.specs.FaultText.{fault_text};
 ghost use Rattle.kasa_top.specs.Status.{status_text};
-ghost use Rattle.kasa_top.specs.Due.{IsMadeAndWritten, IsRefused, IsSolved, IsSoundReport, IsUnreported, IsUnsolved, IsWritten};
+ghost use Rattle.kasa_top.specs.Due.{IsDue, IsMadeAndWritten, IsRefused, IsSolved, IsSoundReport, IsUnreported, IsUnsolved, IsWritten};
 
 use crate::Status;
 use crate::faults::fault_text;
-use crate::plan::plan;
+use crate::words::analyse_of;
+use kasa_choose::{Chooser, Kind, gather};
 use kasa_compile::{ModelFault, read_model};
 use kasa_edge::{Failed, FetchFault, Shelf, Sink};
 use kasa_fixpoint::solve;
@@ -27,35 +28,6 @@ use std::sync::ledger::{Blank, Ledger};
 /// The most bytes of a model's text: 4 MiB.
 const MOST: usize = 4_194_304;
 
-// A word that may name a text: it is not empty, and doesn't begin with `-` as flags do.
-fn is_text_name(word: &str) -> bool
-    ensures { IsTrue result ↔ IsTextName word.now }
-{
-    match word.as_bytes() {
-        [] => false,
-        [first, ..] => *first != b'-',
-    }
-}
-
-// The word of the one command that is served so far.
-fn is_command(word: &str) -> bool
-    ensures { IsTrue result ↔ (word.now ≡ codes "analyse") }
-{
-    word == "analyse"
-}
-
-// The name of the model's text, where the words are those of `analyse`.
-fn model_name(words: &[String]) -> Option<&str>
-    ensures { MatchOption result ((name : _) → ¬ IsAnalyse (map string_bytes words.now) name) (λ name. IsAnalyse (map string_bytes words.now) name.now) }
-{
-    match words {
-        [command, name] if is_command(command.as_str()) && is_text_name(name.as_str()) => {
-            Some(name.as_str())
-        }
-        _ => None,
-    }
-}
-
 // The model's text. Of a longer one than is read, one byte too many.
 fn fetch_model<S: Shelf>(shelf: &mut S, name: &str) -> Result<Vec<u8>, Status>
     ensures text { IfOk result (λ text. Fetched (S.held shelf.old) name.now text.items) }
@@ -69,43 +41,59 @@ fn fetch_model<S: Shelf>(shelf: &mut S, name: &str) -> Result<Vec<u8>, Status>
     }
 }
 
-// The least tables of a model's planned views, by steps over a ledger.
-fn solve_plan<L: Ledger>(blank: Blank, alloc: Global, model: &Model) -> Result<Tables, Status>
+// The least tables of the families that the choosers plan for a model, by steps over a ledger.
+fn solve_plans<L: Ledger>(
+    blank: Blank,
+    alloc: Global,
+    model: &Model,
+    choosers: Vec<Box<dyn Chooser>>,
+    without: &[Kind],
+) -> Result<Tables, Status>
     requires name { blank.name ≡ L.name }
     requires parts { blank.parts ≡ L.parts }
     requires some { L.parts ≡ 1 }
-    ensures solved { IfOk result (λ tables. IsSolved model.now tables) }
-    ensures unsolved { IfErr result (λ status. IsUnsolved model.now status) }
+    ensures solved { IfOk result (λ tables. IsSolved (IsGathered (λ b. kind b) (λ b. plan b) choosers.items without.now) model.now tables) }
+    ensures unsolved { IfErr result (λ status. IsUnsolved (IsGathered (λ b. kind b) (λ b. plan b) choosers.items without.now) model.now status) }
 {
-    let families = plan(alloc, model)?;
+    let families = gather(alloc, model, choosers, without)?;
     let mut steps = Steps::<L>::new(blank);
     Ok(solve(alloc, model, families, &mut steps)?)
 }
 
 // The report of a model's text.
-fn analyse(alloc: Global, text: &[u8]) -> Result<Vec<u8>, Status>
-    ensures report { IfOk result (λ printed. IsSoundReport text.now printed.items) }
-    ensures unreported { IfErr result (λ status. IsUnreported text.now status) }
+fn analyse(
+    alloc: Global,
+    text: &[u8],
+    choosers: Vec<Box<dyn Chooser>>,
+    without: &[Kind],
+) -> Result<Vec<u8>, Status>
+    ensures report { IfOk result (λ printed. IsSoundReport (IsGathered (λ b. kind b) (λ b. plan b) choosers.items without.now) text.now printed.items) }
+    ensures unreported { IfErr result (λ status. IsUnreported (IsGathered (λ b. kind b) (λ b. plan b) choosers.items without.now) text.now status) }
 {
     if text.len() > MOST {
         return Err(Status::TooLong);
     }
     let model = read_model(alloc, text)?;
-    let tables = solve_plan::<Brand>(Blank::new(1), alloc, &model)?;
+    let tables = solve_plans::<Brand>(Blank::new(1), alloc, &model, choosers, without)?;
     Ok(report(alloc, &model, &tables)?)
 }
 
 // The report that is due, or the status without one.
-fn answer<S: Shelf>(alloc: Global, words: &[String], shelf: &mut S) -> Result<Vec<u8>, Status>
-    ensures report { IfOk result (λ printed. Fetches (map string_bytes words.now) (S.held shelf.old) (λ (text : List ℕ). IsSoundReport text printed.items)) }
-    ensures refused { IfErr result (λ status. IsRefused (map string_bytes words.now) (S.held shelf.old) (Rose (S.read_faults shelf.old) (S.read_faults shelf.new)) status) }
+fn answer<S: Shelf>(
+    alloc: Global,
+    words: &[String],
+    shelf: &mut S,
+    choosers: Vec<Box<dyn Chooser>>,
+) -> Result<Vec<u8>, Status>
+    ensures report { IfOk result (λ printed. IsDue (IsGathered (λ b. kind b) (λ b. plan b) choosers.items) (map string_bytes words.now) (S.held shelf.old) printed.items) }
+    ensures refused { IfErr result (λ status. IsRefused (IsGathered (λ b. kind b) (λ b. plan b) choosers.items) (map string_bytes words.now) (S.held shelf.old) (Rose (S.read_faults shelf.old) (S.read_faults shelf.new)) status) }
     ensures same { S.held shelf.new ≡ S.held shelf.old }
 {
-    let Some(name) = model_name(words) else {
+    let Some((without, name)) = analyse_of(alloc, words)? else {
         return Err(Status::BadWords);
     };
     let text = fetch_model(shelf, name)?;
-    analyse(alloc, text.as_slice())
+    analyse(alloc, text.as_slice(), choosers, without.as_slice())
 }
 
 // Writes some of what stands at and behind a place.
@@ -169,15 +157,23 @@ fn refuse<O: Sink>(alloc: Global, out: &mut O, status: Status) -> Status
     }
 }
 
-/// Does what the words ask for, over the texts of a shelf, and prints to a sink. `analyse MODEL` prints what bonds and states
-/// there can be, what the sites of each agent can never hold together, which rules can never fire, and how large species
-/// can become, all by the least closed tables of the planned views, which are orthogonal pattern sets after Feret and Ly. The status says how it ended; the text due is made whole before any of it is written.
-pub fn run<S: Shelf, O: Sink>(alloc: Global, words: &[String], shelf: &mut S, out: &mut O) -> Status
-    ensures ends { Ends (map string_bytes words.now) (S.held shelf.old) (Rose (S.read_faults shelf.old) (S.read_faults shelf.new)) (Rose (O.faults out.old) (O.faults out.new)) result (O.taken out.old) (O.taken out.new) }
-    ensures sound { result ≡ Status.Done → TakesSoundReport (map string_bytes words.now) (S.held shelf.old) (O.taken out.old) (O.taken out.new) }
+/// Does what the words ask for, over the texts of a shelf, and prints to a sink. `analyse FLAGS MODEL` prints what bonds and
+/// states there can be, what agents can never hold together, which rules can never fire, and how large species can become,
+/// all by the least closed tables of the families that the choosers plan, but for those whose kind a flag leaves out; they
+/// are orthogonal pattern sets after Feret and Ly. The status says how it ended; the text due is made whole before any of
+/// it is written.
+pub fn run<S: Shelf, O: Sink>(
+    alloc: Global,
+    words: &[String],
+    shelf: &mut S,
+    out: &mut O,
+    choosers: Vec<Box<dyn Chooser>>,
+) -> Status
+    ensures ends { Ends (IsGathered (λ b. kind b) (λ b. plan b) choosers.items) (map string_bytes words.now) (S.held shelf.old) (Rose (S.read_faults shelf.old) (S.read_faults shelf.new)) (Rose (O.faults out.old) (O.faults out.new)) result (O.taken out.old) (O.taken out.new) }
+    ensures sound { result ≡ Status.Done → TakesSoundReport (IsGathered (λ b. kind b) (λ b. plan b) choosers.items) (map string_bytes words.now) (S.held shelf.old) (O.taken out.old) (O.taken out.new) }
     ensures same { S.held shelf.new ≡ S.held shelf.old }
 {
-    match answer(alloc, words, shelf) {
+    match answer(alloc, words, shelf, choosers) {
         Ok(text) => finish(out, text.as_slice(), Status::Done),
         Err(status) => refuse(alloc, out, status),
     }

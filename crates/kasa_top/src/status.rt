@@ -1,10 +1,10 @@
 // How a call of `run` ends.
 ghost use Rattle.std.specs.Prelude.{◌≡◌};
 ghost use Rattle.kasa_top.specs.Status.{code_of, HasFixedText, status_text};
-ghost use Rattle.kasa_top.specs.Due.{model_status, plan_status, solve_status};
+ghost use Rattle.kasa_top.specs.Due.{model_status, gather_status, solve_status};
 ghost use Rattle.kasa_top.specs.declared.status.Status.TheVariants.{NoMemory as no_room};
 
-use crate::plan::PlanFault;
+use kasa_choose::GatherFault;
 use kasa_compile::ModelFault;
 use kasa_fixpoint::SolveFault;
 use kasa_num::NoMemory;
@@ -86,13 +86,13 @@ impl From<ModelFault> for Status {
     }
 }
 
-impl From<PlanFault> for Status {
-    ghost from_gives = { λ fault status. status ≡ plan_status fault };
+impl From<GatherFault> for Status {
+    ghost from_gives = { λ fault status. status ≡ gather_status fault };
 
-    fn from(fault: PlanFault) -> Status {
+    fn from(fault: GatherFault) -> Status {
         match fault {
-            PlanFault::TooMany => Status::TooManyFamilies,
-            PlanFault::NoMemory => Status::NoMemory,
+            GatherFault::TooMany => Status::TooManyFamilies,
+            GatherFault::NoMemory => Status::NoMemory,
         }
     }
 }

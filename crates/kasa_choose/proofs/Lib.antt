@@ -1,0 +1,12 @@
+pub mod PlanLists
+pub mod InsertedKeys
+pub mod TestLemmas
+pub mod ViewOrder
+pub mod MentionLemmas
+pub mod SiteSetLemmas
+pub mod PlanLemmas
+pub mod ViewList
+pub mod Keys
+pub mod AcrossLemmas
+pub mod TurnLemmas
+pub mod Firsts

@@ -1,0 +1,12 @@
+use Rattle.std.proofs.Common.{◌≡◌}
+use Rattle.std.specs.List.{flat_map}
+use Rattle.kasa_graph.specs.Pattern.{link_test}
+use Rattle.kasa_choose.specs.Kept.{keep_all}
+use Rattle.kasa_choose.specs.Views.{numbers}
+use Rattle.kasa_choose.specs.Chains.{over_second}
+use Rattle.kasa_choose.proofs.chains.add_seconds.Given as goal
+
+abbrev pub invariant-loop-number : goal.invariant-loop-number
+invariant-loop-number l =
+    l.planned
+    ≡ keep_all l.fn.planned (flat_map (λ z. over_second l.sig l.rule l.first.partner l.first.partner_site l.first.node l.first.site z (link_test l.rule.left l.first.node z)) (numbers l.number))

@@ -1,9 +1,0 @@
-use Rattle.std.proofs.Common.{◌↔◌}
-use Rattle.kasa_graph.specs.Lists.{Has}
-use Rattle.kasa_families.specs.declared.family.Family.{Family}
-use Rattle.kasa_top.specs.ViewSets.{view_families}
-use Rattle.kasa_top.proofs.PlanLemmas.{IsPlannedBefore}
-use Rattle.kasa_top.proofs.plan.all_views.Given as goal
-
-abbrev pub invariant-loop-agent : goal.invariant-loop-agent
-invariant-loop-agent l = (f : Family) → Has (view_families l.views.keys) f ↔ IsPlannedBefore l.model l.agent f

@@ -1,6 +1,0 @@
-use Rattle.std.proofs.Common.{◌≡◌}
-use Rattle.kasa_top.specs.ViewSets.{view_families}
-use Rattle.kasa_top.proofs.plan.families_of.Given as goal
-
-abbrev pub invariant-loop-agent : goal.invariant-loop-agent
-invariant-loop-agent l = l.families.items ≡ view_families l.yielded

@@ -1,6 +1,0 @@
-use Rattle.kasa_graph.specs.Lists.{Has}
-use Rattle.kasa_top.proofs.PlanLists.{IsEachBefore}
-use Rattle.kasa_top.proofs.plan.is_within.Given as goal
-
-abbrev pub invariant-loop-site : goal.invariant-loop-site
-invariant-loop-site l = IsEachBefore (λ s. Has l.others s) l.sites l.site-index

@@ -1,6 +1,0 @@
-use Rattle.std.proofs.Common.{◌≡◌}
-use Rattle.kasa_top.specs.ViewSets.{site_lists}
-use Rattle.kasa_top.proofs.plan.list_of.Given as goal
-
-abbrev pub invariant-loop-sites : goal.invariant-loop-sites
-invariant-loop-sites l = l.lists.items ≡ site_lists l.yielded
