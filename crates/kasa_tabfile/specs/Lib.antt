@@ -1,0 +1,6 @@
+pub mod Text
+pub mod Word
+pub mod Line
+pub mod TablesText
+pub mod Outcome
+pub mod inner

@@ -1,0 +1,2 @@
+-- What holds in the midst of loops: nothing that a reader of the public clauses needs.
+pub mod Written
