@@ -26,7 +26,7 @@ row_there rows k n count within none = let at = (some_at rows k (omega (arith, c
 -- ---- a table
 
 -- the table of a number, by its family and its rows
-table_at : (tables : List Table) (f : ℕ) (family : Family) → Some family ≡ slice_get (families_of tables) f → (t : Table) × (slice_get tables f ≡ Some t) × (t.family ≡ family) × (rows_of tables f ≡ t.rows)
+pub table_at : (tables : List Table) (f : ℕ) (family : Family) → Some family ≡ slice_get (families_of tables) f → (t : Table) × (slice_get tables f ≡ Some t) × (t.family ≡ family) × (rows_of tables f ≡ t.rows)
 table_at tables f family at =
     let found = some_map (λ (t : Table). t.family) (slice_get tables f) family (sym (slice_get-map (λ (t : Table). t.family) tables f) ∙ sym at) in
     (found.0, found.1, found.2, rows_of-some tables f found.0 (sym found.1))

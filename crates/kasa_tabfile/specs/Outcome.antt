@@ -98,9 +98,13 @@ abbrev pub next_stage : Option TabFault → Stage → Option Line → Stage
 next_stage None s l = stage_after s l
 next_stage (Some e) s l = Failed e
 
+-- the new value, or the old one where there is a fault
+abbrev pub unless_fault : {A : Type 0} → Option TabFault → A → A → A
+unless_fault None old new = new
+unless_fault (Some e) old new = old
+
 abbrev pub next_tables : Option TabFault → List Table → Option Line → List Table
-next_tables None ts l = tables_after ts l
-next_tables (Some e) ts l = ts
+next_tables e ts l = unless_fault e ts (tables_after ts l)
 
 -- ---- the outcome
 

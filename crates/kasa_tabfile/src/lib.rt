@@ -2,9 +2,17 @@
 #![tactic(auto)]
 
 mod fault;
+mod head;
 mod line;
+mod lists;
+mod open_line;
+mod reader;
+mod reading;
 mod stage;
+mod taking;
+mod word;
 mod write;
 
 pub use fault::TabFault;
+pub use reader::{TableReader, read_tables};
 pub use write::write_tables;

@@ -8,8 +8,8 @@ pub enum Version {
     Two,
 }
 
-/// A line that has a form. `None` stands for a family or a row that is none over any signature, since it is too long or has
-/// a number too large.
+/// A line that has a form. `None` stands for a family or a row that is none over any signature, since it is too long or
+/// has a number too large.
 #[derive(Debug, Drop)]
 pub enum Line {
     Header(Version),
