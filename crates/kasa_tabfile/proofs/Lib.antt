@@ -6,3 +6,11 @@ pub mod Long
 pub mod TakingLemmas
 pub mod ReadingLemmas
 pub mod ReaderLemmas
+pub mod Unique
+pub mod Faults
+pub mod Sound
+pub mod WordTexts
+pub mod LineTexts
+pub mod RoundTrip
+pub mod OrderedTables
+pub mod Exists

@@ -1,13 +1,13 @@
 -- Rows that are moved: they are the same ones, and stay different.
-use Rattle.std.proofs.Common.{◌≡◌, ◌≢◌, ◌↔◌, ℕ, ◌<◌, List, get_or, true, false, refl, sym, ap, ◌∙◌, arith, Some, inl, inr}
+use Rattle.std.proofs.Common.{◌≡◌, ◌≢◌, ℕ, ◌<◌, List, get_or, true, false, refl, sym, ap, ◌∙◌, arith, Some, inl, inr}
 use Rattle.std.specs.Prelude.{slice_get}
-use Rattle.std.specs.List.{Contains, IsDistinct}
+use Rattle.std.specs.List.{IsDistinct}
 use Rattle.std.specs.List.Sorted.{IsPermutation, IsSorted}
 use Rattle.std.proofs.lemmas.Bool.{cases_Bool, cases_lt, cases_eq}
 use Rattle.std.proofs.lemmas.Option.{slice_get_within, get_or_from_slice_get, slice_get-get_or}
-use Rattle.std.proofs.lemmas.List.Sorted.{Contains-permutation, IsPermutation-sym}
 use Rattle.std.proofs.lemmas.Map.Keys.{apart_from_distinct, IsDistinct-from_apart, IsDistinct-IsPermutation}
-use Rattle.kasa_graph.specs.Lists.{Has, AllDifferent}
+use Rattle.kasa_lists.specs.Lists.{AllDifferent}
+use Rattle.kasa_lists.proofs.Having.{Has-moved}
 use Rattle.kasa_families.specs.declared.row.Row.{Row}
 use Rattle.kasa_families.specs.contracts.row.RowOrd.TheImpl as order
 use Rattle.kasa_families.specs.contracts.row.RowPartialEq.TheImpl as equal
@@ -15,18 +15,6 @@ use Rattle.kasa_families.specs.contracts.row.RowEq.TheImpl.Laws.{laws-law as equ
 use Rattle.kasa_families.proofs.SameValue.{same_row}
 use Rattle.kasa_families.proofs.RowOrder.{AreAscending-sorted}
 use Rattle.kasa_tabfile.specs.inner.Written.{AreInRowOrder}
-
-Has-contains : (rows : List Row) (row : Row) → Has rows row → Contains rows row
-Has-contains rows row h = (h.0, slice_get_within rows h.0 row h.1, get_or_from_slice_get rows h.0 row row h.1)
-
-Contains-has : (rows : List Row) (row : Row) → Contains rows row → Has rows row
-Contains-has rows row h = (h.0, slice_get-get_or rows h.0 row h.1 ∙ ap Some h.2)
-
-Has-moved : (rows moved : List Row) → IsPermutation rows moved → (row : Row) → Has moved row ↔ Has rows row
-Has-moved rows moved same row = (
-  λ h. Contains-has rows row (Contains-permutation _ _ row (IsPermutation-sym _ _ same) (Has-contains moved row h)),
-  λ h. Contains-has moved row (Contains-permutation _ _ row same (Has-contains rows row h)),
-)
 
 -- different rows, by their equality
 unequal : (x y : Row) → x ≢ y → (equal.ghosts).eq x y ≡ false

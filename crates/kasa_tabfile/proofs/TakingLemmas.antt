@@ -42,7 +42,7 @@ no_row_at sig ts f row none (t, at, valid) =
     let here : slice_get (families_of ts) f ≡ Some t.family = slice_get-map (λ (v : Table). v.family) ts f ∙ rw at refl in
     let clash : None ≡ Some t.family = none ∙ here in cc
 
-HasShape-row : (sig : List TypeEntry) (family : Family) (row : Row) → IsRow sig family row → HasShape family row
+pub HasShape-row : (sig : List TypeEntry) (family : Family) (row : Row) → IsRow sig family row → HasShape family row
 HasShape-row sig (Parallel a x u b y w) Same ok = tt
 HasShape-row sig (Parallel a x u b y w) Different ok = tt
 HasShape-row sig (Parallel a x u b y w) (Locals locals) ok = absurd ok
