@@ -1,0 +1,5 @@
+pub mod Alone
+pub mod Gain
+pub mod Loss
+pub mod Arrows
+pub mod Idle
