@@ -1,7 +1,7 @@
 //! The program: it makes the real shelf and sink, calls `run`, and ends with the code of its status.
 #![tactic(auto)]
 
-use kasa_choose::{AcrossChooser, ChainChooser, Chooser, ViewChooser};
+use kasa_choose::{AcrossChooser, ChainChooser, Chooser, ParallelChooser, ViewChooser};
 use kasa_edge::{DiskShelf, OutSink};
 use kasa_num::NoMemory;
 use kasa_top::{Status, run};
@@ -24,6 +24,7 @@ fn start(rt: HostRuntime, words: &[String]) -> Result<Status, NoMemory> {
     let mut choosers: Vec<Box<dyn Chooser>> = Vec::new(alloc);
     choosers.push(Box::new(alloc, ViewChooser::new(alloc))?)?;
     choosers.push(Box::new(alloc, AcrossChooser::new(alloc))?)?;
+    choosers.push(Box::new(alloc, ParallelChooser::new(alloc))?)?;
     choosers.push(Box::new(alloc, ChainChooser::new(alloc))?)?;
     let mut shelf = DiskShelf::new(rt, alloc);
     let mut out = OutSink::new(rt);

@@ -8,5 +8,6 @@ pub mod PlanLemmas
 pub mod ViewList
 pub mod Keys
 pub mod AcrossLemmas
+pub mod Possible
 pub mod TurnLemmas
 pub mod Firsts

@@ -1,5 +1,5 @@
 -- What tests tell, and what filters, joined lists and ranges have.
-use Rattle.std.proofs.Common.{◌≡◌, ℕ, zero, suc, ◌+◌, ◌<◌, ◌≤◌, ◌⊎◌, inl, inr, ◌↔◌, Bool, true, false, not, ◌||◌, cond, List, [], ◌∷◌, refl, ap, sym, subst, ◌∙◌, arith}
+use Rattle.std.proofs.Common.{◌≡◌, ℕ, zero, suc, ◌+◌, ◌<◌, ◌≤◌, ◌⊎◌, inl, inr, ◌↔◌, Bool, true, false, not, ◌||◌, ◌&&◌, cond, List, [], ◌∷◌, refl, ap, sym, subst, ◌∙◌, arith}
 use Rattle.std.specs.Prelude.{nat_eq}
 use Rattle.std.specs.List.{filter, flat_map, list_any, list_all, range_with_len}
 use Rattle.std.proofs.lemmas.Bool.{eqb-true, eq-eqb}
@@ -13,6 +13,10 @@ use Rattle.kasa_families.specs.Family.{Ascends}
 pub or_told : (b c : Bool) → (b || c) ≡ true ↔ ((b ≡ true) ⊎ (c ≡ true))
 or_told true c = (λ h. inl refl, λ h. refl)
 or_told false c = (λ h. inr h, λ h. elim h [ inl no_true ↦ absurd cc | inr own ↦ own ])
+
+pub and_told : (b c : Bool) → (b && c) ≡ true ↔ ((b ≡ true) × (c ≡ true))
+and_told true c = (λ h. (refl, h), λ h. h.1)
+and_told false c = (λ h. absurd cc, λ h. absurd (let is = h.0 in cc))
 
 pub implies_told : (b c : Bool) → (not b || c) ≡ true ↔ (b ≡ true → c ≡ true)
 implies_told true c = (λ h is. h, λ h. h refl)

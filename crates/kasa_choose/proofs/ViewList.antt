@@ -20,7 +20,7 @@ use Rattle.kasa_choose.specs.ViewSets.{IsInNoLarger}
 use Rattle.kasa_choose.proofs.PlanLists.{IsListOf-same}
 use Rattle.kasa_choose.proofs.MentionLemmas.{mentioned_listed}
 use Rattle.kasa_choose.proofs.PlanLemmas.{view_empty}
-use Rattle.kasa_choose.proofs.TestLemmas.{or_told, implies_told, not_told, filter_has, any_has, all_has, has_told, flat_has, range_has, numbers_has, Ascends-range}
+use Rattle.kasa_choose.proofs.TestLemmas.{and_told, or_told, implies_told, not_told, filter_has, any_has, all_has, has_told, flat_has, range_has, numbers_has, Ascends-range}
 
 -- ---- what the tests tell
 
@@ -184,10 +184,6 @@ list_order (x ∷ xs) (y ∷ ys) = elim (number_order x y) [
 
 less_told : (x y : ℕ) → nat_lt x y ≡ true ↔ (x < y)
 less_told x y = (λ h. ltb-true x y h, λ less. lt-ltb x y less)
-
-and_told : (b c : Bool) → (b && c) ≡ true ↔ ((b ≡ true) × (c ≡ true))
-and_told true c = (λ h. (refl, h), λ h. h.1)
-and_told false c = (λ h. absurd cc, λ h. absurd (let is = h.0 in cc))
 
 precedes_told : (xs ys : List ℕ) → precedes xs ys ≡ true ↔ PrecedesList xs ys
 precedes_told [] [] = (λ h. absurd cc, λ p. absurd p)

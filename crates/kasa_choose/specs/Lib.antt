@@ -4,5 +4,7 @@ pub mod Kept
 pub mod Views
 pub mod Across
 pub mod Chains
+pub mod Parallel
+pub mod Own
 pub mod ViewPlan
 pub mod ViewSets

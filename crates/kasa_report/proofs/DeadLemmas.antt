@@ -1,7 +1,7 @@
 -- The lines of dead rules, one rule after another.
-use Rattle.std.proofs.Common.{◌≡◌, ◌+◌, ◌≤◌, ℕ, inl, inr, List, [], ◌∷◌, ◌++◌, length, take, sym, ap, ◌∙◌, append_assoc, arith}
+use Rattle.std.proofs.Common.{◌≡◌, ◌+◌, ◌≤◌, ℕ, inl, inr, List, [], ◌∷◌, ◌++◌, length, take, refl, sym, ap, ◌∙◌, append_assoc, arith}
 use Rattle.std.specs.Prelude.{Some, slice_get}
-use Rattle.std.proofs.lemmas.List.{append-nil, take_all}
+use Rattle.std.proofs.lemmas.List.{append-nil, length-append, take_all}
 use Rattle.kasa_lists.proofs.Elements.{take-one_more, length-taken}
 use Rattle.kasa_graph.specs.Signature.{TypeEntry}
 use Rattle.kasa_rules.specs.Rule.{RuleParts}
@@ -50,3 +50,30 @@ module _ (sig : List TypeEntry) (tables : List Table) where
 
   pub dead_all : (rules : List RuleParts) (k : ℕ) (first now : List ℕ) → length rules ≤ k → AreWritten (take k rules) first now → (lines : List (List ℕ)) × AreDeadLines sig tables 1 rules lines × (now ≡ first ++ all_lines lines)
   dead_all rules k first now end w = (w.lines, rw (take_all k rules end) at w.are_lines, w.text)
+
+  -- ---- how many they are
+
+  pub record AreCounted (rules : List RuleParts) (count : ℕ) : Type 0 where
+    pub lines : List (List ℕ)
+    pub are_lines : AreDeadLines sig tables 1 rules lines
+    pub count_is : count ≡ length lines
+
+  pub counted_none : AreCounted [] 0
+  counted_none = record { lines = []; are_lines = tt; count_is = refl }
+
+  module _ (rules : List RuleParts) (k : ℕ) (r : RuleParts) (at : slice_get rules k ≡ Some r) (count : ℕ) (so_far : AreCounted (take k rules) count) where
+    pub counted_skip : ¬ IsDead sig tables r → AreCounted (take (k + 1) rules) count
+    counted_skip alive = record { lines = so_far.lines; are_lines = rw (take-one_more rules k r at) (alive_last 1 (take k rules) so_far.lines r so_far.are_lines alive); count_is = so_far.count_is }
+
+    pub counted_more : IsDead sig tables r → AreCounted (take (k + 1) rules) (count + 1)
+    counted_more dead =
+        let size = length-taken rules k r at in
+        let longer = length-append so_far.lines (rule_text (k + 1) r ∷ []) in
+        record {
+          lines = so_far.lines ++ rule_text (k + 1) r ∷ [];
+          are_lines = rw (take-one_more rules k r at) (dead_last 1 (k + 1) (take k rules) so_far.lines r (omega arith) so_far.are_lines dead);
+          count_is = omega (arith, longer, so_far.count_is);
+        }
+
+  pub counted_all : (rules : List RuleParts) (k count : ℕ) → length rules ≤ k → AreCounted (take k rules) count → (lines : List (List ℕ)) × AreDeadLines sig tables 1 rules lines × (count ≡ length lines)
+  counted_all rules k count end w = (w.lines, rw (take_all k rules end) at w.are_lines, w.count_is)

@@ -6,6 +6,7 @@ pub mod RunLemmas
 pub mod TextLemmas
 pub mod ShownLemmas
 pub mod DeadLemmas
+pub mod CountLemmas
 pub mod TableLemmas
 pub mod SortedRows
 pub mod ReportLemmas

@@ -1,11 +1,9 @@
 -- Tables that hold the same have one report.
-use Rattle.std.proofs.Common.{◌≡◌, ℕ, suc, ◌+◌, ◌<◌, ◌⊎◌, inl, inr, ◌↔◌, List, [], ◌∷◌, ◌++◌, length, codes, refl, sym, ap, subst, ◌∙◌, arith}
+use Rattle.std.proofs.Common.{◌≡◌, ℕ, suc, ◌+◌, inl, inr, ◌↔◌, List, [], ◌∷◌, length, refl, sym, ap, subst, ◌∙◌, arith}
 use Rattle.std.specs.Prelude.{Some, slice_get, ⊤}
 use Rattle.std.proofs.lemmas.Option.{slice_get-map}
 use Rattle.kasa_lists.specs.Lists.{Has, AllDifferent}
 use Rattle.kasa_lists.proofs.Having.{Has-[], Has-cons}
-use Rattle.kasa_lists.proofs.Different.{AllDifferent-tail}
-use Rattle.kasa_graph.specs.Signature.{TypeEntry}
 use Rattle.kasa_rules.specs.declared.model.Model.{Model}
 use Rattle.kasa_rules.specs.Reached.{IsModel}
 use Rattle.kasa_rules.specs.Rule.{RuleParts}
@@ -17,19 +15,14 @@ use Rattle.kasa_families.specs.declared.row.Row.TheVariants.{Locals}
 use Rattle.kasa_families.specs.Row.{IsRowBelow, AreAscending}
 use Rattle.kasa_families.specs.Table.{Table, families_of, AreTables, Holds, IsWithin}
 use Rattle.kasa_families.proofs.RowOrder.{IsRowBelow-trans, IsRowBelow-strict}
-use Rattle.kasa_pre.specs.Allowed.{IsDead}
 use Rattle.kasa_polymers.specs.declared.map.Bond.{Bond}
 use Rattle.kasa_polymers.specs.declared.map.StateSeen.{StateSeen}
 use Rattle.kasa_polymers.specs.declared.map.ContactMap.{ContactMap}
-use Rattle.kasa_polymers.specs.declared.map.Polymers.{Polymers}
 use Rattle.kasa_polymers.specs.Order.{IsBondBelow, IsStateBelow}
 use Rattle.kasa_polymers.proofs.OrderLemmas.{not_below_self, below-trans}
 use Rattle.kasa_polymers.proofs.Verdicts.{one_verdict}
-use Rattle.kasa_report.specs.Section.{section}
-use Rattle.kasa_report.specs.ContactText.{contact_lines}
-use Rattle.kasa_report.specs.LemmasText.{IsOrdered, AreShown, lemma_lines}
+use Rattle.kasa_report.specs.LemmasText.{IsOrdered, AreShown}
 use Rattle.kasa_report.specs.DeadText.{AreDeadLines}
-use Rattle.kasa_report.specs.PolymersText.{verdict_text}
 use Rattle.kasa_report.specs.Product.{SomeLocal, IsMixed, IsProductOf, IsProductRows, IsProduct}
 use Rattle.kasa_report.specs.Report.{IsContactMap, IsReport}
 use Rattle.kasa_report.specs.Same.{HoldTheSame}

@@ -1,8 +1,6 @@
 -- The contact map and the verdict of tables that hold the same.
-use Rattle.std.proofs.Common.{◌≡◌, ℕ, ◌+◌, ◌⊎◌, inl, inr, ◌↔◌, List, [], ◌∷◌, length, sum, sym}
-use Rattle.std.specs.Prelude.{Some, slice_get}
+use Rattle.std.proofs.Common.{◌≡◌, ℕ, ◌⊎◌, inl, inr, ◌↔◌, List, [], ◌∷◌, sym}
 use Rattle.kasa_graph.specs.declared.pattern.Node.{Node}
-use Rattle.kasa_graph.specs.Signature.{state_counts}
 use Rattle.kasa_rules.specs.declared.model.Model.{Model}
 use Rattle.kasa_rules.specs.Rule.{RuleParts}
 use Rattle.kasa_families.specs.Table.{Table, families_of, IsWithin}

@@ -5,6 +5,7 @@ pub mod LemmasText
 pub mod DeadText
 pub mod PolymersText
 pub mod Report
+pub mod SampleReport
 pub mod Same
 pub mod Sound
 pub mod inner

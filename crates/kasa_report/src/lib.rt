@@ -7,7 +7,9 @@ mod lemmas;
 mod map;
 mod polymers;
 mod product;
+mod sample;
 mod sections;
 mod write;
 
+pub use sample::sample_report;
 pub use sections::report;

@@ -22,7 +22,11 @@ pub(crate) fn write_polymers(
     Ok(())
 }
 
-fn write_verdict(sig: &Signature, verdict: &Polymers, out: &mut Vec<u8>) -> Result<(), NoMemory>
+pub(crate) fn write_verdict(
+    sig: &Signature,
+    verdict: &Polymers,
+    out: &mut Vec<u8>,
+) -> Result<(), NoMemory>
     ensures { OnOk result (out.new.items ≡ out.old.items ++ verdict_text sig.now verdict.now) }
 {
     match verdict {
