@@ -28,6 +28,10 @@ rows_so_far tables f = sum_by-take-le size tables f
 
 -- ---- lines behind what stands
 
+-- two pieces behind a text
+pub two_behind : (before a b one two : List ℕ) → one ≡ before ++ a → two ≡ one ++ b → two ≡ before ++ (a ++ b)
+two_behind before a b one two first second = second ∙ ap (λ t. t ++ b) first ∙ append_assoc before a b
+
 -- three pieces behind a text
 pub behind : (before a b c one two three : List ℕ) → one ≡ before ++ a → two ≡ one ++ b → three ≡ two ++ c → three ≡ before ++ ((a ++ b) ++ c)
 behind before a b c one two three first second third =

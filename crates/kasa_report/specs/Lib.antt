@@ -6,6 +6,8 @@ pub mod DeadText
 pub mod PolymersText
 pub mod Report
 pub mod SampleReport
+pub mod CheckText
+pub mod FaultText
 pub mod Same
 pub mod Sound
 pub mod inner

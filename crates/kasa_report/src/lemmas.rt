@@ -148,7 +148,7 @@ fn write_row(
 }
 
 // A line with a pattern's text, further in.
-fn write_pattern_line(
+pub(crate) fn write_pattern_line(
     sig: &Signature,
     indent: &[u8],
     pattern: &Pattern,

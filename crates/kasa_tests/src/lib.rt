@@ -3,6 +3,8 @@
 #![tactic(auto)]
 
 #[cfg(test)]
+mod choosers;
+#[cfg(test)]
 mod counted;
 #[cfg(test)]
 mod devices;

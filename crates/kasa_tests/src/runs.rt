@@ -5,7 +5,7 @@ use kasa_top::run;
 use std::alloc::Global;
 use std::test::Fail;
 
-const HUB: &[u8] = b"%agent: Hub(port, lock{open shut})
+pub(crate) const HUB: &[u8] = b"%agent: Hub(port, lock{open shut})
 %agent: Cart(nose)
 %init: 5 Hub()
 %init: 5 Cart()
@@ -14,7 +14,7 @@ const HUB: &[u8] = b"%agent: Hub(port, lock{open shut})
 'open' Hub(lock{shut/open}) @ 1
 ";
 
-const REPORT: &[u8] = b"contact map
+pub(crate) const REPORT: &[u8] = b"contact map
  Hub.port[nose.Cart]
  Hub.lock{open shut}
  Cart.nose[port.Hub]

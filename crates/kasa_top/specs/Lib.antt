@@ -1,5 +1,4 @@
 pub mod LineText
-pub mod FaultText
 pub mod Status
 pub mod Words
 pub mod Outcome

@@ -2,7 +2,7 @@
 use Rattle.std.specs.Prelude.{ℕ, ⊤, List, [], codes}
 use Rattle.kasa_top.specs.declared.status.Status.{Status}
 use Rattle.kasa_top.specs.declared.status.Status.TheVariants.{Done, BadWords, BadModel, TooLong, TooManyRows, TooManyFamilies, ReadFault, WriteFault, NoMemory}
-use Rattle.kasa_top.specs.FaultText.{fault_text}
+use Rattle.kasa_report.specs.FaultText.{model_fault_text}
 use Rattle.kasa_top.specs.LineText.{line}
 
 abbrev pub code_of : Status → ℕ
@@ -19,7 +19,7 @@ code_of NoMemory = 12
 abbrev pub status_text : Status → List ℕ
 status_text Done = []
 status_text BadWords = line (codes "words not understood")
-status_text (BadModel fault) = fault_text fault
+status_text (BadModel fault) = model_fault_text fault
 status_text TooLong = line (codes "too long")
 status_text TooManyRows = line (codes "too many rows")
 status_text TooManyFamilies = line (codes "too many families")

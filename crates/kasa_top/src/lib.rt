@@ -1,7 +1,6 @@
 //! What the program does: from the words and the texts that it is given to the text that it prints.
 #![tactic(auto)]
 
-mod faults;
 pub mod laws;
 mod program;
 mod status;

@@ -6,19 +6,18 @@ ghost use Rattle.kasa_top.specs.Outcome.{Ends};
 ghost use Rattle.kasa_choose.specs.Gathered.{IsGathered};
 ghost use Rattle.kasa_top.specs.Fetched.{Fetched};
 ghost use Rattle.kasa_top.specs.Sound.{TakesSoundReport};
-ghost use Rattle.kasa_top.specs.FaultText.{fault_text};
+ghost use Rattle.kasa_report.specs.FaultText.{model_fault_text as fault_text};
 ghost use Rattle.kasa_top.specs.Status.{status_text};
 ghost use Rattle.kasa_top.specs.Due.{IsDue, IsMadeAndWritten, IsRefused, IsSolved, IsSoundReport, IsUnreported, IsUnsolved, IsWritten};
 
 use crate::Status;
-use crate::faults::fault_text;
 use crate::words::analyse_of;
 use kasa_choose::{Chooser, Kind, gather};
 use kasa_compile::{ModelFault, read_model};
 use kasa_edge::{Failed, FetchFault, Shelf, Sink};
 use kasa_fixpoint::solve;
 use kasa_num::{NoMemory, Steps};
-use kasa_report::report;
+use kasa_report::{model_fault_text, report};
 use kasa_rules::Model;
 use kasa_tables::Tables;
 use std::alloc::Global;
@@ -139,7 +138,7 @@ fn finish<O: Sink>(out: &mut O, text: &[u8], status: Status) -> Status
 fn refuse_model<O: Sink>(alloc: Global, out: &mut O, fault: ModelFault) -> Status
     ensures { IsMadeAndWritten (fault_text fault) (Status.BadModel fault) (Rose (O.faults out.old) (O.faults out.new)) result (O.taken out.old) (O.taken out.new) }
 {
-    match fault_text(alloc, &fault) {
+    match model_fault_text(alloc, &fault) {
         Ok(text) => finish(out, text.as_slice(), Status::BadModel(fault)),
         Err(NoMemory) => Status::NoMemory,
     }

@@ -1,4 +1,4 @@
--- The printed text of a model's fault: its place and the name of its cause.
+-- The printed texts of faults: of a model, and of a file of tables.
 use Rattle.std.specs.Prelude.{ℕ, List, [], ◌++◌, codes, decimal}
 use Rattle.kasa_num.specs.declared.Place.{Place}
 use Rattle.kasa_lexer.specs.declared.LexFault.{LexFault}
@@ -11,7 +11,11 @@ use Rattle.kasa_compile.specs.declared.fault.CompileFault.{CompileFault}
 use Rattle.kasa_compile.specs.declared.fault.CompileFault.TheVariants as compile
 use Rattle.kasa_compile.specs.declared.fault.ModelFault.{ModelFault}
 use Rattle.kasa_compile.specs.declared.fault.ModelFault.TheVariants as model
-use Rattle.kasa_top.specs.LineText.{line}
+use Rattle.kasa_tabfile.specs.declared.fault.TabFault.{TabFault}
+use Rattle.kasa_tabfile.specs.declared.fault.TabFault.TheVariants as tab
+use Rattle.kasa_report.specs.Section.{line}
+
+-- ---- of a model: its place and the name of its cause
 
 unfoldable pub place_text : Place → List ℕ → List ℕ
 place_text p cause = line (codes "model " ++ decimal p.line ++ codes ":" ++ decimal p.column ++ codes ": " ++ cause)
@@ -53,9 +57,25 @@ compile_text (compile.TooManyRules p) = place_text p (codes "TooManyRules")
 compile_text (compile.TooManyInits p) = place_text p (codes "TooManyInits")
 compile_text compile.NoMemory = []
 
-abbrev pub fault_text : ModelFault → List ℕ
-fault_text (model.Lex f) = lex_text f
-fault_text (model.Parse f) = parse_text f
-fault_text (model.Sig f) = sig_text f
-fault_text (model.Compile f) = compile_text f
-fault_text model.NoMemory = []
+abbrev pub model_fault_text : ModelFault → List ℕ
+model_fault_text (model.Lex f) = lex_text f
+model_fault_text (model.Parse f) = parse_text f
+model_fault_text (model.Sig f) = sig_text f
+model_fault_text (model.Compile f) = compile_text f
+model_fault_text model.NoMemory = []
+
+-- ---- of a file of tables: its line and the name of its cause
+
+unfoldable pub numbered : ℕ → List ℕ → List ℕ
+numbered n cause = line (codes "tables " ++ decimal n ++ codes ": " ++ cause)
+
+abbrev pub tables_fault_text : TabFault → List ℕ
+tables_fault_text (tab.BadLine n) = numbered n (codes "BadLine")
+tables_fault_text (tab.BadFamily n) = numbered n (codes "BadFamily")
+tables_fault_text (tab.FamilyTwice n) = numbered n (codes "FamilyTwice")
+tables_fault_text (tab.TooManyFamilies n) = numbered n (codes "TooManyFamilies")
+tables_fault_text (tab.BadRow n) = numbered n (codes "BadRow")
+tables_fault_text (tab.RowTwice n) = numbered n (codes "RowTwice")
+tables_fault_text (tab.TooManyRows n) = numbered n (codes "TooManyRows")
+tables_fault_text tab.NoEnd = codes "tables: NoEnd\n"
+tables_fault_text tab.NoMemory = []

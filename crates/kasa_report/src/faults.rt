@@ -1,6 +1,6 @@
-// The text of a model's fault.
+// The texts of faults: of a model, and of a file of tables.
 ghost use Rattle.std.specs.Prelude.{◌≡◌, ◌++◌, decimal, IfOk, OnOk};
-ghost use Rattle.kasa_top.specs.FaultText.{compile_text, fault_text, lex_text, parse_text, place_text, sig_text};
+ghost use Rattle.kasa_report.specs.FaultText.{compile_text, lex_text, model_fault_text as text_of, parse_text, place_text, sig_text, tables_fault_text as text_of_tables, numbered};
 
 use itoa::Buffer;
 use kasa_compile::{CompileFault, ModelFault};
@@ -8,11 +8,12 @@ use kasa_lexer::LexFault;
 use kasa_num::{NoMemory, Place};
 use kasa_parser::ParseFault;
 use kasa_sig::SigFault;
+use kasa_tabfile::TabFault;
 use std::alloc::Global;
 
 /// The line of a model's fault, `model LINE:COLUMN: Cause`; nothing where it is want of memory.
-pub fn fault_text(alloc: Global, fault: &ModelFault) -> Result<Vec<u8>, NoMemory>
-    ensures { IfOk result (λ text. text.items ≡ fault_text fault.now) }
+pub fn model_fault_text(alloc: Global, fault: &ModelFault) -> Result<Vec<u8>, NoMemory>
+    ensures { IfOk result (λ text. text.items ≡ text_of fault.now) }
 {
     match fault {
         ModelFault::Lex(fault) => lex_text(alloc, fault),
@@ -21,6 +22,34 @@ pub fn fault_text(alloc: Global, fault: &ModelFault) -> Result<Vec<u8>, NoMemory
         ModelFault::Compile(fault) => compile_text(alloc, fault),
         ModelFault::NoMemory => Ok(Vec::new(alloc)),
     }
+}
+
+/// The line of a fault of a file of tables, `tables LINE: Cause`, or `tables: NoEnd`; nothing where it is want of memory.
+pub fn tables_fault_text(alloc: Global, fault: &TabFault) -> Result<Vec<u8>, NoMemory>
+    ensures { IfOk result (λ text. text.items ≡ text_of_tables fault.now) }
+{
+    match fault {
+        TabFault::BadLine(number) => numbered_text(alloc, *number, b"BadLine"),
+        TabFault::BadFamily(number) => numbered_text(alloc, *number, b"BadFamily"),
+        TabFault::FamilyTwice(number) => numbered_text(alloc, *number, b"FamilyTwice"),
+        TabFault::TooManyFamilies(number) => numbered_text(alloc, *number, b"TooManyFamilies"),
+        TabFault::BadRow(number) => numbered_text(alloc, *number, b"BadRow"),
+        TabFault::RowTwice(number) => numbered_text(alloc, *number, b"RowTwice"),
+        TabFault::TooManyRows(number) => numbered_text(alloc, *number, b"TooManyRows"),
+        TabFault::NoEnd => Ok(Vec::from_slice(alloc, b"tables: NoEnd\n")?),
+        TabFault::NoMemory => Ok(Vec::new(alloc)),
+    }
+}
+
+// The line of a cause at a line.
+fn numbered_text(alloc: Global, number: u32, cause: &[u8]) -> Result<Vec<u8>, NoMemory>
+    ensures { IfOk result (λ text. text.items ≡ numbered number cause.now) }
+{
+    let mut text = Vec::from_slice(alloc, b"tables ")?;
+    write_number(number, b": ", &mut text)?;
+    text.extend_from_slice(cause)?;
+    text.push(b'\n')?;
+    Ok(text)
 }
 
 fn lex_text(alloc: Global, fault: &LexFault) -> Result<Vec<u8>, NoMemory>

@@ -1,0 +1,10 @@
+use Rattle.std.proofs.Common.{append_assoc}
+use Rattle.kasa_report.specs.Section.{line}
+use Rattle.kasa_report.specs.FaultText.{numbered}
+use Rattle.kasa_report.proofs.faults.numbered_text.Goals as goal
+
+pub returns : goal.returns
+unfolding numbered line
+returns c =
+    rw (c.in_ok-push.ensures.items, c.in_ok-extend_from_slice.ensures.items, c.in_ok-write_number.ensures, c.in_ok-text.ensures.items)
+    (simp append_assoc)
