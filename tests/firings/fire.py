@@ -15,6 +15,8 @@ import sys
 HUB, CART = {"port": None, "lock": "open"}, {"nose": None, "load": "empty"}
 
 DOCK = [("bind", 0, "port", 1, "nose")]
+PLATE = {"a": None, "b": None}
+SWAP = [("state", 0, "load", "empty"), ("state", 2, "load", "full")]
 MODELS = {
     "scrap": (
         [("Hub", HUB), ("Cart", {"nose": None})] * 10,
@@ -37,6 +39,21 @@ MODELS = {
             ("Hub(port[1],lock{open}) Cart(nose[1],load{full})", [("state", 1, "load", "empty")]),
         ],
     ),
+    "rails": (
+        [("Plate", PLATE), ("Rail", PLATE)] * 10,
+        [
+            ("Plate(a[.],b[.]) Rail(a[.],b[.])", [("bind", 0, "a", 1, "a")]),
+            ("Plate(a[1],b[.]) Rail(a[1],b[.])", [("bind", 0, "b", 1, "b")]),
+        ],
+    ),
+    "pass": (
+        [("Bar", {"l": None, "r": None}), ("Cart", {"hook": None, "load": "full"}), ("Cart", {"hook": None, "load": "empty"})] * 5,
+        [
+            ("Cart(hook[1],load{full}) Bar(l[1],r[2]) Cart(hook[2],load{empty})", SWAP),
+            ("Cart(hook[1],load{empty}) Bar(l[1],r[2]) Cart(hook[2],load{full})", [("state", 0, "load", "full"), ("state", 2, "load", "empty")]),
+            ("Cart(hook[1],load{full}) Bar(l[1],r[2]) Cart(hook[2],load{full})", [("state", 2, "load", "empty")]),
+        ],
+    ),
     "make": (
         [("Hub", {"port": None})] * 20,
         [
@@ -51,7 +68,7 @@ MODELS = {
     ),
 }
 # The bonds that are there at first, of each copy of the complex.
-BONDS = {"cut": [(0, "port", 1, "nose")], "beam": [(0, "l", 1, "hook"), (0, "r", 2, "hook")]}
+BONDS = {"cut": [(0, "port", 1, "nose")], "beam": [(0, "l", 1, "hook"), (0, "r", 2, "hook")], "pass": [(0, "l", 1, "hook"), (0, "r", 2, "hook")]}
 
 
 class Agent:
@@ -81,9 +98,31 @@ def is_embedding(left, agents):
                 return False
             if link == "." and site in agent.links or link == "_" and site not in agent.links:
                 return False
+            if "." in link[1:] and partner(agent, site) != link:
+                return False
             if link and link.isdigit():
                 ends.setdefault(link, []).append((agent, site))
-    return all(one[0].links.get(one[1]) == other for one, other in ends.values())
+    return all(len(one) < 2 or one[0][0].links.get(one[0][1]) == one[1] for one in ends.values())
+
+
+def partner(agent, site):
+    """The partner of a site as `site.Type`, nothing where it is free."""
+    other, there = agent.links.get(site, (None, None))
+    return other and f"{there}.{other.kind}"
+
+
+def extensions(pattern, mixture, given=()):
+    """The lists of different agents that a connected pattern embeds on and that begin with the given ones."""
+    if not is_embedding(pattern, given):
+        return
+    if len(given) == len(pattern):
+        yield given
+        return
+    labels = {link: site for site, _, link in pattern[len(given)][1] if link.isdigit()}
+    ends = [a.links.get(s) for (_, tests), a in zip(pattern, given) for s, _, link in tests if link in labels]
+    for other in [end[0] for end in ends[:1] if end] if ends else mixture:
+        if other not in given:
+            yield from extensions(pattern, mixture, given + (other,))
 
 
 def fire(mixture, agents, steps):
@@ -109,15 +148,6 @@ def nodes(text):
     return [(k, re.findall(r"(\w+)(?:\{(\w+)\})?(?:\[([^\]]+)\])?", s)) for k, s in re.findall(r"(\w+)\(([^)]*)\)", text)]
 
 
-def show(agent, sites):
-    parts = []
-    for site in sites:
-        link = agent.links.get(site)
-        state = "{%s}" % agent.states[site] if agent.states[site] else ""
-        parts.append(f"{site}{state}[{link[1] + '.' + link[0].kind if link else '.'}]")
-    return f"  {agent.kind}({','.join(parts)})"
-
-
 def contacts(report):
     """The printed contact map: a type, a site, and a state or a partner there."""
     section = report.split("lemmas\n")[0]
@@ -130,21 +160,26 @@ def shown_contacts(agent):
     return states | {(agent.kind, site, f"{there}.{other.kind}") for site, (other, there) in agent.links.items()}
 
 
-def views(report):
-    """The printed views: a type, its sites and its rows."""
-    blocks = re.findall(r"^ (\w+)\(\)\n((?:  .*\n)+)", report, re.M)
-    return [(kind, re.findall(r"(\w+)(?:\{\w+\})?\[", rows.split("\n")[0]), set(rows.splitlines())) for kind, rows in blocks]
+def lemmas(report):
+    """The printed lemmas: the pattern of a root, and its rows, each with its text."""
+    section = report.split("lemmas\n")[1].split("dead rules\n")[0]
+    blocks = re.findall(r"^ (\w.*)\n((?:  .*\n)+)", section, re.M)
+    return [(nodes(root), [(row, nodes(row)) for row in rows.splitlines() if row != "  never"]) for root, rows in blocks]
+
+
+def dead_rules(report):
+    return {int(it) for it in re.findall(r"^ (\d+)", report.split("dead rules\n")[1], re.M)}
 
 
 def main():
     kasa, name, firings = sys.argv[1], sys.argv[2], int(sys.argv[3])
     report = subprocess.run([kasa, "analyse", name + ".ka"], stdout=subprocess.PIPE).stdout.decode()
-    printed, known, choose = views(report), contacts(report), random.Random(1)
+    printed, known, dead, choose = lemmas(report), contacts(report), dead_rules(report), random.Random(1)
     fired, seen, met = set(), set(), set()
     agents, rules = MODELS[name]
     mixture = [Agent(*it) for it in agents]
     bonds = BONDS.get(name, [])
-    size = 3 if name == "beam" else 2
+    size = 3 if name in ("beam", "pass") else 2
     for first in range(0, len(mixture), size):
         for one, site, other, there in bonds:
             bind(mixture[first + one], site, mixture[first + other], there)
@@ -160,13 +195,17 @@ def main():
         if not met <= known:
             print("not in the contact map:", sorted(met - known))
             return
-        for kind, sites, rows in printed:
-            shown = {show(agent, sites) for agent in mixture if agent.kind == kind}
-            seen |= shown
-            if not shown <= rows:
-                print("not printed:", sorted(shown - rows))
-                return
-    rows = sum(len(rows) for _, _, rows in printed)
+        for root, rows in printed:
+            for place in extensions(root, mixture):
+                row = next((text for text, row in rows if any(extensions(row, mixture, place))), None)
+                if row is None:
+                    print("not printed: what holds of", [agent.kind for agent in place], "with", root)
+                    return
+                seen.add(row)
+    if fired & dead:
+        print("dead rules fired:", sorted(fired & dead))
+        return
+    rows = sum(len(rows) for _, rows in printed)
     fired = " ".join(map(str, sorted(fired)))
     print(f"{name}: rules {fired} fired, {len(met)} of {len(known)} states and bonds and {len(seen)} of {rows} rows were seen")
 
