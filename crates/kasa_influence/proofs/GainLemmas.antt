@@ -64,16 +64,14 @@ module _ (sig : List TypeEntry) (tables : List Table) (r r2 : RuleParts) (cells 
           node = node;
           «at» = is;
           stand = stand;
-          yields = record {
-            stands = stand ∷ [];
-            freed = freed.0;
+          freed = freed.0;
+          makes = record {
             pattern = stood.pattern;
             free = stood.free;
             before = stood.before;
             allowed = IsAllowed-cover sig tables m stood.pattern (cells_before cells (stand ∷ []) (c ∷ [])) ok over cover stood.stood;
+            gained = gained freed.0 freed.1;
           };
-          stands_there = refl;
-          gained = gained freed.0 freed.1;
         }
 
     below : (c < length m) ⊎ Gains sig tables r r2

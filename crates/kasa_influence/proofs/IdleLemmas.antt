@@ -1,6 +1,6 @@
 -- A rule that does nothing has no gain and no loss for any rule.
-use Rattle.std.proofs.Common.{◌≡◌, ◌≢◌, ℕ, inl, inr, true, List, refl, ap, ◌∙◌}
-use Rattle.std.specs.Prelude.{Some, slice_get}
+use Rattle.std.proofs.Common.{◌≡◌, ◌≢◌, ℕ, inl, inr, true, List, refl, ap}
+use Rattle.std.specs.Prelude.{Some}
 use Rattle.kasa_graph.specs.Signature.{TypeEntry}
 use Rattle.kasa_families.specs.Table.{Table}
 use Rattle.kasa_rules.specs.declared.rule.Written.{Written}
@@ -12,19 +12,16 @@ use Rattle.kasa_influence.specs.Gain.{Gains}
 use Rattle.kasa_influence.specs.Loss.{Loses}
 use Rattle.kasa_influence.specs.Idle.{IsIdle}
 use Rattle.kasa_influence.proofs.AloneLemmas.{agent_at-alone}
-use Rattle.kasa_influence.proofs.LossLemmas.{not_touched}
+use Rattle.kasa_influence.proofs.TouchLemmas.{not_touched}
 
 module _ (sig : List TypeEntry) (tables : List Table) (r r2 : RuleParts) (idle : IsIdle r) where
   none_touched : (n s : ℕ) → touched r n s ≢ true
   none_touched n s e = let none = not_touched r n s (idle.kept n) (idle.links n s) in cc
 
   module _ (gains : Gains sig tables r r2) where
-    first_stand : (stand : Stand) → gains.stand ≡ stand → slice_get gains.yields.stands 0 ≡ Some stand
-    first_stand stand e = ap (λ (xs : List Stand). slice_get xs 0) gains.stands_there ∙ ap Some e
-
     not_made : (k : ℕ) → gains.stand ≢ Made k
     not_made k e =
-        let some = gains.yields.before.stand.fit 0 gains.node.agent (Made k) (first_stand (Made k) e) (agent_at-alone r2.left gains.number gains.node gains.«at») in
+        let some = gains.makes.before.stand.fit 0 gains.node.agent (Made k) (ap Some e) (agent_at-alone r2.left gains.number gains.node gains.«at») in
         let none = idle.made k in
         cc
 
@@ -40,16 +37,16 @@ module _ (sig : List TypeEntry) (tables : List Table) (r r2 : RuleParts) (idle :
 
   pub no_gain-idle : ¬ Gains sig tables r r2
   no_gain-idle gains =
-      elim gains.gained [
+      elim gains.makes.gained [
         | inl (inl made) ↦ not_made gains made.0 made.1
         | inl (inr (inl written)) ↦ no_state gains written.0 written.1 gains.stand refl written.4
         | inl (inr (inr written)) ↦ no_link gains written.0 written.1 gains.stand refl written.3
-        | inr freed ↦ none_touched freed.0.from freed.0.«at» (gains.yields.free.by_touched freed.0 freed.1)
+        | inr freed ↦ none_touched freed.0.from freed.0.«at» (gains.makes.free.by_touched freed.0 freed.1)
       ]
 
   pub no_loss-idle : ¬ Loses sig tables r r2
   no_loss-idle loses =
-      elim loses.lost [
+      elim loses.stops.lost [
         | inl (inl deleted) ↦ idle.kept loses.place deleted
         | inl (inr (inl written)) ↦ let some = written.4 in let none = idle.states loses.place written.0 in cc
         | inl (inr (inr written)) ↦ let some = written.3 in let none = idle.links loses.place written.0 in cc

@@ -15,7 +15,8 @@ use Rattle.kasa_pre.specs.Closed.{Cover, IsClosed}
 use Rattle.kasa_pre.proofs.SoundLemmas.{Cover-reached}
 use Rattle.kasa_influence.specs.Gain.{Gains}
 use Rattle.kasa_influence.specs.Loss.{Loses}
-use Rattle.kasa_influence.specs.Arrows.{MakesNone, StopsNone}
+use Rattle.kasa_influence.specs.declared.map.Arrow.{Arrow}
+use Rattle.kasa_influence.specs.Arrows.{IsGain, IsLoss, MakesNone, StopsNone, OthersMakeNone, OthersStopNone}
 use Rattle.kasa_influence.proofs.GainLemmas.{before_or_gains}
 use Rattle.kasa_influence.proofs.LossLemmas.{after_or_loses}
 
@@ -53,3 +54,14 @@ module _ (model : Model) (tables : List Table) (ok : AreTables model.sig tables)
         | inl later ↦ later
         | inr found ↦ absurd (none found)
       ]
+
+-- ---- arrows that are left out
+
+module _ (model : Model) (tables : List Table) (ok : AreTables model.sig tables) (valid : IsModel model) (arrows : List Arrow) where
+  pub OthersMakeNone-all : ((arrow : Arrow) → IsGain model tables arrow → Has arrows arrow) → IsClosed model tables → OthersMakeNone model arrows
+  OthersMakeNone-all all closed arrow r r2 leads none =
+      MakesNone-reached model tables ok valid closed r r2 (arrow.from, leads.0) (arrow.to, leads.1) (λ gains. none (all arrow (r, r2, leads, gains)))
+
+  pub OthersStopNone-all : ((arrow : Arrow) → IsLoss model tables arrow → Has arrows arrow) → IsClosed model tables → OthersStopNone model arrows
+  OthersStopNone-all all closed arrow r r2 leads none =
+      StopsNone-reached model tables ok valid closed r r2 (arrow.from, leads.0) (arrow.to, leads.1) (λ loses. none (all arrow (r, r2, leads, loses)))

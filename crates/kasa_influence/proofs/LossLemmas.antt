@@ -25,7 +25,7 @@ use Rattle.kasa_rules.specs.declared.rule.End.{End}
 use Rattle.kasa_rules.specs.declared.rule.End.TheVariants as «end»
 use Rattle.kasa_rules.specs.declared.rule.Written.{Written}
 use Rattle.kasa_rules.specs.declared.rule.Written.TheVariants.{Free, To}
-use Rattle.kasa_rules.specs.Rule.{RuleParts, fate_at, action_at, written_state, written_link, touches, touched, end_type, end_link, IsRuleOver}
+use Rattle.kasa_rules.specs.Rule.{RuleParts, fate_at, written_state, written_link, end_type, end_link, IsRuleOver}
 use Rattle.kasa_rules.specs.Firing.{fire, node_on, fate_on, state_on, link_on, touched_on, end_cell, partner_at, unless, kept_partner}
 use Rattle.kasa_rules.proofs.FiringLemmas.{node_on-found, node_on-at, untouched}
 use Rattle.kasa_rules.proofs.FiredLemmas.{type_within, type_in-fire_new}
@@ -44,7 +44,8 @@ use Rattle.kasa_pre.proofs.CoverLemmas.{IsAllowed-cover}
 use Rattle.kasa_influence.specs.Alone.{alone, unnamed}
 use Rattle.kasa_influence.specs.Loss.{AsksPartner, IsBroken, LosesPartner, Loses}
 use Rattle.kasa_influence.proofs.SearchLemmas.{IsEmbedding-or}
-use Rattle.kasa_influence.proofs.AloneLemmas.{state_test-alone, link_test-alone, unnamed_asks, met_unnamed}
+use Rattle.kasa_influence.proofs.TouchLemmas.{not_touched, touched-past}
+use Rattle.kasa_influence.proofs.AloneLemmas.{agent_at-alone, state_test-alone, link_test-alone, unnamed_asks, met_unnamed}
 use Rattle.kasa_influence.proofs.AfterLemmas.{type_in-stays, state_in-stays, state_in-written, partner_in-stays, met_after, left_within, partner_below, end_exists, partner_in-written}
 
 -- ---- general facts
@@ -56,25 +57,6 @@ LinkImplies-of_place g a test.Free p = p
 LinkImplies-of_place g a test.Bound p = p
 LinkImplies-of_place g a (test.Partner b y) p = p
 LinkImplies-of_place g a (test.To n t) p = let same : n ≡ p.0 = cc in rw p.2 (sym same, refl)
-
-pub not_touched : (r : RuleParts) (n s : ℕ) → fate_at r n ≢ Some Deleted → written_link r n s ≡ None → touched r n s ≡ false
-unfolding touched
-not_touched r n s stays none = rw none (by_fate (fate_at r n) stays)
-  where
-    by_fate : (fate : Option Fate) → fate ≢ Some Deleted → touches fate None ≡ false
-    by_fate (Some Deleted) ne = absurd (ne refl)
-    by_fate (Some Kept) ne = refl
-    by_fate None ne = refl
-
-none_past : {X : Type 0} (xs : List X) (n : ℕ) → length xs ≡ n → slice_get xs n ≡ None
-none_past [] n e = refl
-none_past (x ∷ xs) zero e = absurd (omega arith)
-none_past (x ∷ xs) (suc n) e = none_past xs n (omega arith)
-
--- a rule touches nothing past its left nodes
-touched-past : (r : RuleParts) (n s : ℕ) → length r.actions ≡ n → touched r n s ≡ false
-unfolding fate_at written_link action_at
-touched-past r n s e = not_touched r n s (rw (none_past r.actions n e) (λ f. cc)) (rw (none_past r.actions n e) refl)
 
 length-snoc : {X : Type 0} (xs : List X) (x : X) → length (xs ++ x ∷ []) ≡ suc (length xs)
 length-snoc [] x = refl
@@ -170,7 +152,7 @@ module _ (sig : List TypeEntry) (tables : List Table) (r r2 : RuleParts) (cells 
             | inr none ↦ rw (link_test-alone r2.left i node is s, none.1) tt
           ]
 
-      loses : (types_of (cut m list) ≡ types_of r.left) ⊎ ((place ≡ length r.left) × (types_of (cut m list) ≡ types_of r.left ++ node.agent ∷ [])) → IsBroken r r2 i (alone r2.left node) place ⊎ LosesPartner r r2 i (alone r2.left node) (cut m list) place → Loses sig tables r r2
+      loses : (types_of (cut m list) ≡ types_of r.left) ⊎ ((place ≡ length r.left) × (types_of (cut m list) ≡ types_of r.left ++ node.agent ∷ [])) → IsBroken r r2.left i (alone r2.left node) place ⊎ LosesPartner r r2.left i (alone r2.left node) (cut m list) place → Loses sig tables r r2
       loses nodes lost = record {
         live = IsAllowed-cover sig tables m r.left cells ok over cover at;
         number = i;
@@ -178,15 +160,17 @@ module _ (sig : List TypeEntry) (tables : List Table) (r r2 : RuleParts) (cells 
         «at» = is;
         pattern = cut m list;
         place = place;
-        valid = IsPatternOver-cut sig m over list different alive;
-        allowed = IsAllowed-cover sig tables m (cut m list) list ok over cover (IsEmbedding-cut m list different alive);
-        of_type = cut_type m list place c node.agent on_place typed;
-        nodes = nodes;
-        left_states = left_states;
-        left_links = left_links;
-        states = λ s. rw (state_test-alone r2.left i node is s) (StateImplies-cut sig m over list different alive place c s (state_test r2.left i s) on_place (before.states i c s here));
-        links = own_links;
-        lost = lost;
+        stops = record {
+          valid = IsPatternOver-cut sig m over list different alive;
+          allowed = IsAllowed-cover sig tables m (cut m list) list ok over cover (IsEmbedding-cut m list different alive);
+          nodes = nodes;
+          left_states = left_states;
+          left_links = left_links;
+          of_type = cut_type m list place c node.agent on_place typed ∙ sym (agent_at-alone r2.left i node is);
+          states = λ s. rw (state_test-alone r2.left i node is s) (StateImplies-cut sig m over list different alive place c s (state_test r2.left i s) on_place (before.states i c s here));
+          links = own_links;
+          lost = lost;
+        };
       }
 
     left_alive : (n d : ℕ) → slice_get cells n ≡ Some d → (a : ℕ) × (type_in m d ≡ Some a)
@@ -199,11 +183,11 @@ module _ (sig : List TypeEntry) (tables : List Table) (r r2 : RuleParts) (cells 
     left_typed n d a e f = at.types n d a e (agent_at-types r.left n ∙ f)
 
     -- where a left node lies on the cell
-    loses_left : (n : ℕ) → node_on cells c ≡ Some n → IsBroken r r2 i (alone r2.left node) n ⊎ LosesPartner r r2 i (alone r2.left node) (cut m cells) n → Loses sig tables r r2
+    loses_left : (n : ℕ) → node_on cells c ≡ Some n → IsBroken r r2.left i (alone r2.left node) n ⊎ LosesPartner r r2.left i (alone r2.left node) (cut m cells) n → Loses sig tables r r2
     loses_left n on lost = loses cells n (λ k d e. e) (node_on-found cells c n on) at.different left_alive (inl (types_of-cut m cells (types_of r.left) left_count left_typed)) lost
 
     -- where none does
-    loses_outside : node_on cells c ≡ None → ((first : (n d : ℕ) → slice_get cells n ≡ Some d → slice_get (cells ++ c ∷ []) n ≡ Some d) → slice_get (cells ++ c ∷ []) (length r.left) ≡ Some c → AllDifferent (cells ++ c ∷ []) → LosesPartner r r2 i (alone r2.left node) (cut m (cells ++ c ∷ [])) (length r.left)) → Loses sig tables r r2
+    loses_outside : node_on cells c ≡ None → ((first : (n d : ℕ) → slice_get cells n ≡ Some d → slice_get (cells ++ c ∷ []) n ≡ Some d) → slice_get (cells ++ c ∷ []) (length r.left) ≡ Some c → AllDifferent (cells ++ c ∷ []) → LosesPartner r r2.left i (alone r2.left node) (cut m (cells ++ c ∷ [])) (length r.left)) → Loses sig tables r r2
     loses_outside none lost =
         loses (cells ++ c ∷ []) (length r.left) first on_place different alive (inr (refl, types_of-cut m (cells ++ c ∷ []) (types_of r.left ++ node.agent ∷ []) count all_typed)) (inr (lost first on_place different))
       where
@@ -277,7 +261,7 @@ module _ (sig : List TypeEntry) (tables : List Table) (r r2 : RuleParts) (cells 
               loses_left n e (inr (s, source.0, t, asks', bond_in_cut m cells at.different n c s d t source.0 (node_on-found cells c n e) was source.1, source.2, not_touched r n s (rw e at stays) (rw e at none)))
           by_node None e =
               let source = left_touched r cells d t gone in
-              loses_outside e (λ first on_place different. (s, source.0, t, asks', bond_in_cut m (cells ++ c ∷ []) different (length r.left) c s d t source.0 on_place was (first source.0 d source.1), source.2, touched-past r (length r.left) s rule.is_rule.actions))
+              loses_outside e (λ first on_place different. (s, source.0, t, asks', bond_in_cut m (cells ++ c ∷ []) different (length r.left) c s d t source.0 on_place was (first source.0 d source.1), source.2, touched-past r (length r.left) (let count = rule.is_rule.actions in omega arith) s))
 
       link_or : (s : ℕ) → MeetsLink (fire r cells m) others (partner_in (fire r cells m) c s) (link_test r2.left i s) ⊎ Loses sig tables r r2
       link_or s = by_link (link_on r cells c s) refl

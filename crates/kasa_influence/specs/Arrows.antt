@@ -1,6 +1,7 @@
 -- Arrows: the pairs of rules of which the first may make, or stop, embeddings of the second's left pattern.
 use Rattle.std.specs.Prelude.{◌≡◌, ◌<◌, ◌⊎◌, ℕ, List, Option, Some, slice_get}
 use Rattle.kasa_graph.specs.declared.mixture.Agent.{Agent}
+use Rattle.kasa_graph.specs.Lists.{Has}
 use Rattle.kasa_graph.specs.Embedding.{IsEmbedding}
 use Rattle.kasa_rules.specs.declared.model.Model.{Model}
 use Rattle.kasa_rules.specs.Rule.{RuleParts}
@@ -34,3 +35,10 @@ MakesNone model r r2 = (m : List (Option Agent)) (cells others : List ℕ) → R
 -- none stops cells being one
 abbrev pub StopsNone : Model → RuleParts → RuleParts → Type 0
 StopsNone model r r2 = (m : List (Option Agent)) (cells others : List ℕ) → Reached model m → IsEmbedding r.left m cells → IsEmbedding r2.left m others → IsEmbedding r2.left (fire r cells m) others
+
+-- so it is for each positive arrow that isn't listed, and for each negative one
+abbrev pub OthersMakeNone : Model → List Arrow → Type 0
+OthersMakeNone model arrows = (arrow : Arrow) (r r2 : RuleParts) → Leads model arrow r r2 → ¬ Has arrows arrow → MakesNone model r r2
+
+abbrev pub OthersStopNone : Model → List Arrow → Type 0
+OthersStopNone model arrows = (arrow : Arrow) (r r2 : RuleParts) → Leads model arrow r r2 → ¬ Has arrows arrow → StopsNone model r r2

@@ -13,35 +13,42 @@ use Rattle.kasa_pre.specs.declared.Stand.{Stand}
 use Rattle.kasa_pre.specs.declared.Stand.TheVariants.{Made}
 use Rattle.kasa_pre.specs.declared.FreedBy.{FreedBy}
 use Rattle.kasa_pre.specs.Allowed.{IsAllowed}
-use Rattle.kasa_pre.specs.Before.{state_written, link_written}
-use Rattle.kasa_pre.specs.Yields.{YieldsPattern}
+use Rattle.kasa_pre.specs.Before.{state_written, link_written, AreFreed, IsBefore}
 use Rattle.kasa_influence.specs.Alone.{alone}
 
--- v is one node
-module _ (r : RuleParts) (v : List Node) where
-  -- the node is created
-  abbrev pub IsCreated : Stand → Type 0
-  IsCreated stand = (k : ℕ) × (stand ≡ Made k)
+-- the rule creates a node with the stand
+abbrev pub IsCreated : Stand → Type 0
+IsCreated stand = (k : ℕ) × (stand ≡ Made k)
 
-  -- its state is tested where the rule writes one
-  abbrev pub MeetsWrittenState : Stand → Type 0
-  MeetsWrittenState stand = (s u w : ℕ) × (state_test v 0 s ≡ Is w) × (state_written r stand s ≡ Some u)
+-- v, one node with a stand
+module _ (r : RuleParts) (v : List Node) (stand : Stand) where
+  -- it tests a state that the rule writes
+  abbrev pub TestsWrittenState : Type 0
+  TestsWrittenState = (s u w : ℕ) × (state_test v 0 s ≡ Is w) × (state_written r stand s ≡ Some u)
 
-  -- its link is tested where the rule writes one
-  abbrev pub MeetsWrittenLink : Stand → Type 0
-  MeetsWrittenLink stand = (s : ℕ) × (w : Written) × (link_test v 0 s ≢ Any) × (link_written r stand s ≡ Some w)
+  -- it tests a link that the rule writes
+  abbrev pub TestsWrittenLink : Type 0
+  TestsWrittenLink = (s : ℕ) × (w : Written) × (link_test v 0 s ≢ Any) × (link_written r stand s ≡ Some w)
 
-  -- it meets something that the rule does there
-  abbrev pub MeetsWritten : Stand → Type 0
-  MeetsWritten stand = IsCreated stand ⊎ MeetsWrittenState stand ⊎ MeetsWrittenLink stand
+  -- the rule does something there that the node asks about
+  abbrev pub MeetsWritten : Type 0
+  MeetsWritten = IsCreated stand ⊎ TestsWrittenState ⊎ TestsWrittenLink
 
--- a node of r2's left pattern, by itself, can stand where r created it, wrote what it tests, or freed a site of it
+-- v, one node, can stand after r fired, with the stand and where the side effect freed these tests of it: and it meets what r
+-- did there, or some test is freed
+pub record Makes (sig : List TypeEntry) (tables : List Table) (r : RuleParts) (v : List Node) (stand : Stand) (freed : List FreedBy) : Type 0 where
+  pub pattern : List Node
+  pub free : AreFreed r v (stand ∷ []) freed
+  pub before : IsBefore sig r v (stand ∷ []) freed pattern
+  pub allowed : IsAllowed sig tables pattern
+  pub gained : MeetsWritten r v stand ⊎ ((f : FreedBy) × Has freed f)
+
+-- r isn't dead, and makes some node of r2's left pattern
 pub record Gains (sig : List TypeEntry) (tables : List Table) (r r2 : RuleParts) : Type 0 where
   pub live : IsAllowed sig tables r.left
   pub number : ℕ
   pub node : Node
   pub «at» : slice_get r2.left number ≡ Some node
   pub stand : Stand
-  pub yields : YieldsPattern sig tables r (alone r2.left node)
-  pub stands_there : yields.stands ≡ stand ∷ []
-  pub gained : MeetsWritten r (alone r2.left node) stand ⊎ ((f : FreedBy) × Has yields.freed f)
+  pub freed : List FreedBy
+  pub makes : Makes sig tables r (alone r2.left node) stand freed

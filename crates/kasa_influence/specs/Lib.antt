@@ -3,3 +3,4 @@ pub mod Gain
 pub mod Loss
 pub mod Arrows
 pub mod Idle
+pub mod inner

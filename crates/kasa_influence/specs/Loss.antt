@@ -22,15 +22,15 @@ AsksPartner (Partner b y) = ⊤
 AsksPartner (To m t) = ⊤
 AsksPartner _ = ⊥
 
--- b is a node of r2's left pattern, v that node by itself
-module _ (r r2 : RuleParts) (b : ℕ) (v : List Node) where
+-- v is the node b of another left pattern h, by itself
+module _ (r : RuleParts) (h : List Node) (b : ℕ) (v : List Node) where
   -- it tests a state, and the rule writes another at its left node n
   abbrev pub BreaksState : ℕ → Type 0
   BreaksState n = (s u w : ℕ) × (state_test v 0 s ≡ Is w) × (written_state r n s ≡ Some u) × (u ≢ w)
 
   -- what is written doesn't meet its test; a bond to a node is never known to be met
   abbrev pub MayMiss : ℕ → ℕ → Written → Type 0
-  MayMiss n s w = ((m t : ℕ) × (link_test r2.left b s ≡ To m t)) ⊎ (¬ WrittenMeets r (Left n ∷ []) w (link_test v 0 s))
+  MayMiss n s w = ((m t : ℕ) × (link_test h b s ≡ To m t)) ⊎ (¬ WrittenMeets r (Left n ∷ []) w (link_test v 0 s))
 
   -- it tests a link that the rule writes at n
   abbrev pub BreaksLink : ℕ → Type 0
@@ -44,8 +44,20 @@ module _ (r r2 : RuleParts) (b : ℕ) (v : List Node) where
   abbrev pub LosesPartner : List Node → ℕ → Type 0
   LosesPartner g p = (s m t : ℕ) × AsksPartner (link_test v 0 s) × (link_test g p s ≡ To m t) × (touched r m t ≡ true) × (touched r p s ≡ false)
 
--- a node of r2's left pattern, by itself, can stand where r deletes it, writes against a test of it or frees its partner:
--- g has r's left nodes, and one more where the node lies on none of them
+  -- the node can stand at g's node p before r fires, and r may break it or take its partner: g has r's left nodes, and one
+  -- more where the node lies on none of them
+  pub record Stops (sig : List TypeEntry) (tables : List Table) (g : List Node) (p : ℕ) : Type 0 where
+    pub valid : IsPatternOver sig g
+    pub allowed : IsAllowed sig tables g
+    pub nodes : (types_of g ≡ types_of r.left) ⊎ ((p ≡ length r.left) × (types_of g ≡ types_of r.left ++ types_of v))
+    pub left_states : (n s : ℕ) → StateImplies (state_test g n s) (state_test r.left n s)
+    pub left_links : (n s : ℕ) → LinkImplies g (link_test g n s) (link_test r.left n s)
+    pub of_type : agent_at g p ≡ agent_at v 0
+    pub states : (s : ℕ) → StateImplies (state_test g p s) (state_test v 0 s)
+    pub links : (s : ℕ) → LinkImplies g (link_test g p s) (link_test v 0 s)
+    pub lost : IsBroken p ⊎ LosesPartner g p
+
+-- r isn't dead, and stops some node of r2's left pattern
 pub record Loses (sig : List TypeEntry) (tables : List Table) (r r2 : RuleParts) : Type 0 where
   pub live : IsAllowed sig tables r.left
   pub number : ℕ
@@ -53,12 +65,4 @@ pub record Loses (sig : List TypeEntry) (tables : List Table) (r r2 : RuleParts)
   pub «at» : slice_get r2.left number ≡ Some node
   pub pattern : List Node
   pub place : ℕ
-  pub valid : IsPatternOver sig pattern
-  pub allowed : IsAllowed sig tables pattern
-  pub of_type : agent_at pattern place ≡ Some node.agent
-  pub nodes : (types_of pattern ≡ types_of r.left) ⊎ ((place ≡ length r.left) × (types_of pattern ≡ types_of r.left ++ node.agent ∷ []))
-  pub left_states : (n s : ℕ) → StateImplies (state_test pattern n s) (state_test r.left n s)
-  pub left_links : (n s : ℕ) → LinkImplies pattern (link_test pattern n s) (link_test r.left n s)
-  pub states : (s : ℕ) → StateImplies (state_test pattern place s) (state_test (alone r2.left node) 0 s)
-  pub links : (s : ℕ) → LinkImplies pattern (link_test pattern place s) (link_test (alone r2.left node) 0 s)
-  pub lost : IsBroken r r2 number (alone r2.left node) place ⊎ LosesPartner r r2 number (alone r2.left node) pattern place
+  pub stops : Stops r r2.left number (alone r2.left node) sig tables pattern place
