@@ -1,5 +1,5 @@
 -- What is printed of tables that were tried for closure.
-use Rattle.std.specs.Prelude.{◌≡◌, ℕ, ◌+◌, List, ◌++◌, codes, decimal}
+use Rattle.std.specs.Prelude.{◌≡◌, ℕ, List, ◌++◌, codes, decimal}
 use Rattle.kasa_graph.specs.Signature.{TypeEntry}
 use Rattle.kasa_graph.specs.PatternText.{pattern_text}
 use Rattle.kasa_rules.specs.declared.model.Model.{Model}
@@ -21,10 +21,10 @@ pub record IsCheckReport (model : Model) (tables : List Table) (text : List ℕ)
   pub are_dead : AreDeadLines model.sig tables 1 model.rules dead
   pub printed : text ≡ line (codes "closed") ++ section (codes "lemmas") (lemma_lines model.sig shown) ++ section (codes "dead rules") dead
 
--- where a lacked row comes from, by its number from 1
+-- where a lacked row comes from, by its number, which counts from 1
 unfoldable pub origin_text : Origin → List ℕ
-origin_text (origin.Init n) = codes "init " ++ decimal (n + 1)
-origin_text (origin.Rule n) = codes "rule " ++ decimal (n + 1)
+origin_text (origin.Init n) = codes "init " ++ decimal n
+origin_text (origin.Rule n) = codes "rule " ++ decimal n
 
 -- the line of a row that tables lack
 unfoldable pub missing_text : List TypeEntry → Family → Origin → Row → List ℕ

@@ -51,13 +51,13 @@ fn write_origin(origin: Origin, out: &mut Vec<u8>) -> Result<(), NoMemory>
     ensures { OnOk result (out.new.items ≡ out.old.items ++ origin_text origin) }
 {
     match origin {
-        Origin::Init(number) => {
+        Origin::Init(init) => {
             out.extend_from_slice(b"init ")?;
-            write_number(number.0 as u64 + 1, out)
+            write_number(init.0 as u64, out)
         }
-        Origin::Rule(number) => {
+        Origin::Rule(rule) => {
             out.extend_from_slice(b"rule ")?;
-            write_number(number.0 as u64 + 1, out)
+            write_number(rule.0 as u64, out)
         }
     }
 }
