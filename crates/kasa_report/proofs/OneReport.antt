@@ -25,6 +25,8 @@ use Rattle.kasa_report.specs.LemmasText.{IsOrdered, AreShown}
 use Rattle.kasa_report.specs.DeadText.{AreDeadLines}
 use Rattle.kasa_report.specs.Product.{SomeLocal, IsMixed, IsProductOf, IsProductRows, IsProduct}
 use Rattle.kasa_report.specs.Report.{IsContactMap, IsReport}
+use Rattle.kasa_report.specs.CheckText.{IsCheckReport}
+use Rattle.kasa_report.specs.SampleReport.{IsSampleReport}
 use Rattle.kasa_report.specs.Same.{HoldTheSame}
 use Rattle.kasa_report.proofs.InOrder.{AreBelow, AreBelow-pairs, ordered_same}
 use Rattle.kasa_report.proofs.SameTables.{IsContactBond-within, IsContactState-within, IsDead-within, IsVerdict-same}
@@ -221,3 +223,20 @@ one_report model tables others a b valid ok same p q =
     let dead = one_dead model tables others same 1 model.rules p.dead q.dead p.are_dead q.are_dead in
     let verdict = one_verdict model others valid p.verdict q.verdict (IsVerdict-same model tables others same.families same.there same.back p.verdict p.is_verdict) q.is_verdict in
     p.printed ∙ rw (map, shown, dead, verdict) (sym q.printed)
+
+-- ---- one report on closed tables, and one on the sample model
+
+pub one_check_report : (model : Model) (tables others : List Table) (a b : List ℕ) → AreTables model.sig tables → HoldTheSame tables others → IsCheckReport model tables a → IsCheckReport model others b → a ≡ b
+one_check_report model tables others a b ok same p q =
+    let shown = one_shown tables others p.shown q.shown (one_by_one tables others same ok.different) p.are_shown q.are_shown in
+    let dead = one_dead model tables others same 1 model.rules p.dead q.dead p.are_dead q.are_dead in
+    p.printed ∙ rw (shown, dead) (sym q.printed)
+
+holds_itself : (tables : List Table) → HoldTheSame tables tables
+holds_itself tables = record { families = refl; there = λ family row held. held; back = λ family row held. held }
+
+pub one_sample_report : (size : ℕ) (model : Model) (tables : List Table) (a b : List ℕ) → IsModel model → IsSampleReport size model tables a → IsSampleReport size model tables b → a ≡ b
+one_sample_report size model tables a b valid p q =
+    let dead = one_dead model tables tables (holds_itself tables) 1 model.rules p.dead q.dead p.are_dead q.are_dead in
+    let verdict = one_verdict model tables valid p.verdict q.verdict p.is_verdict q.is_verdict in
+    p.printed ∙ rw (dead, verdict) (sym q.printed)
